@@ -1,0 +1,76 @@
+// The number that a sequence number stands for.
+ghost use Rattle.std.specs.Prelude.{◌≡◌, ◌<◌, ◌≤◌, ◌^◌, IfSome, IfNone, ℕ};
+ghost use Rattle.link_base.specs.SequenceNumbers.{modulus, Near, OneIsNear};
+
+use crate::SnSize;
+
+/// The one number with this sequence number that lies near the base: at most half a cycle below it, and less than
+/// half a cycle above it (TS 38.322 clause 7.1, TS 38.323 clause 5.2.2).
+///
+/// A base is at most 2^62. None where the number would be negative.
+pub fn near(sn: u32, base: u64, size: SnSize) -> Option<u64>
+    requires sn { sn < modulus size }
+    requires base { base ≤ 2 ^ 62 }
+    ensures near { IfSome result (Near size sn base) }
+    ensures none { IfNone result ((number : ℕ) → Near size sn base number → ⊥) }
+{
+    let sn = u64::from(sn);
+    let cycle: u64 = match size {
+        SnSize::S12 => 4096,
+        SnSize::S18 => 262_144,
+    };
+    let half = cycle / 2;
+    let same_cycle = base - base % cycle + sn;
+    if same_cycle >= base + half {
+        same_cycle.checked_sub(cycle)
+    } else if same_cycle + half < base {
+        Some(same_cycle + cycle)
+    } else {
+        Some(same_cycle)
+    }
+}
+
+/// A law: no other number than `near`'s has the sequence number and lies near the base.
+pub fn one_number_is_near()
+    ensures { OneIsNear }
+{}
+
+#[cfg(test)]
+mod tests {
+    use super::*;
+
+    // The greatest base.
+    const TOP: u64 = 1 << 62;
+
+    #[test]
+    fn deduces_short_numbers(rt: HostRuntime) {
+        for (sn, base, want) in [
+            (0, 4095, Some(4096)),
+            (4095, 0, None),
+            (0, 0, Some(0)),
+            (2047, 0, Some(2047)),
+            (2048, 0, None),
+            (0, 2048, Some(0)),
+            (0, 2049, Some(4096)),
+            (2048, 1, Some(2048)),
+            (0, TOP, Some(TOP)),
+        ] {
+            assert!(rt; sn < 4096 && base <= TOP);
+            assert_eq!(rt; near(sn, base, SnSize::S12), want, "sn {sn} at {base}");
+        }
+    }
+
+    #[test]
+    fn deduces_long_numbers(rt: HostRuntime) {
+        for (sn, base, want) in [
+            (0, 262_143, Some(262_144)),
+            (262_143, 0, None),
+            (131_071, 0, Some(131_071)),
+            (262_143, 262_144, Some(262_143)),
+            (4096, TOP, Some(TOP + 4096)),
+        ] {
+            assert!(rt; sn < 262_144 && base <= TOP);
+            assert_eq!(rt; near(sn, base, SnSize::S18), want, "sn {sn} at {base}");
+        }
+    }
+}

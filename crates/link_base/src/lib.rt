@@ -1,0 +1,18 @@
+//! What all layers share: names, byte strings and lists, want of memory, and the number that a sequence number stands for.
+#![tactic(auto)]
+
+mod bytes;
+mod deduced;
+mod item_list;
+mod memory;
+mod names;
+mod rlc_words;
+
+pub use bytes::{Bytes, copy_bytes};
+pub use deduced::{near, one_number_is_near};
+pub use item_list::{ItemList, NumberList, SduList};
+pub use memory::Memory;
+pub use names::{
+    Chan, Drb, Goal, Key, LocalId, Node, Place, PortName, Remote, Side, SnSize, Timer, Way,
+};
+pub use rlc_words::{Expired, Tag};
