@@ -1,0 +1,2 @@
+pub mod Amd
+pub mod Laws
