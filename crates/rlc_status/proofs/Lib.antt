@@ -1,0 +1,10 @@
+pub mod Elements
+pub mod Reading
+pub mod Unique
+pub mod Faults
+pub mod Spelling
+pub mod Octets
+pub mod Answer
+pub mod Sizes
+pub mod Says
+pub mod Total

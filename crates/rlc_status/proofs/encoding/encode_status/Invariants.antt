@@ -1,0 +1,12 @@
+use Rattle.std.proofs.Common.{◌≡◌, ◌++◌, length}
+use Rattle.rlc_status.specs.Format.{nacks_of, bytes_of, AllFit}
+use Rattle.rlc_status.proofs.encoding.encode_status.Given as goal
+
+abbrev pub invariant-loop-rest : goal.invariant-loop-rest
+invariant-loop-rest l = record {
+  so_far : l.bytes ++ nacks_of l.size l.rest ≡ bytes_of l.size l.status;
+  fit : AllFit l.size l.rest;
+}
+
+abbrev pub decreases-loop-rest : goal.decreases-loop-rest
+decreases-loop-rest l = length l.rest
