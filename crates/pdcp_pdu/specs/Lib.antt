@@ -1,0 +1,3 @@
+pub mod Pdcp
+pub mod Laws
+pub mod Reports
