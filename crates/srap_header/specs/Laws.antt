@@ -1,0 +1,22 @@
+-- What holds of the format of SRAP data PDUs alone.
+use Rattle.std.specs.Prelude.{◌≡◌, ℕ, ◌<◌, List, All}
+use Rattle.srap_header.specs.declared.pdu.SrapFault.{SrapFault}
+use Rattle.srap_header.specs.Srap.{Srap, IsSrap, Fits, bytes_of, HasNoReservedBits, IsFault}
+
+-- octets spell at most one PDU
+abbrev pub OneReading : Type 0
+OneReading = (v w : Srap) (bytes : List ℕ) → IsSrap v bytes → IsSrap w bytes → v ≡ w
+
+-- octets that spell a PDU have no fault
+abbrev pub NoFaultWhereRead : Type 0
+NoFaultWhereRead = (v : Srap) (bytes : List ℕ) (fault : SrapFault) → IsSrap v bytes → IsFault bytes fault → ⊥
+
+-- a PDU that fits is spelt by its octets with reserved bits 0, and by no others with reserved bits 0
+abbrev pub OneSpellingWithoutReservedBits : Type 0
+OneSpellingWithoutReservedBits =
+    ((v : Srap) → Fits v → IsSrap v (bytes_of v) × HasNoReservedBits (bytes_of v))
+    × ((v : Srap) (bytes : List ℕ) → IsSrap v bytes → HasNoReservedBits bytes → bytes ≡ bytes_of v)
+
+-- a PDU that octets below 256 spell fits
+abbrev pub WhatIsReadFits : Type 0
+WhatIsReadFits = (v : Srap) (bytes : List ℕ) → All (λ octet. octet < 256) bytes → IsSrap v bytes → Fits v

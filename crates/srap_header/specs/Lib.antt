@@ -1,0 +1,2 @@
+pub mod Srap
+pub mod Laws

@@ -1,0 +1,124 @@
+// The PDU's fields, and its octets.
+ghost use Rattle.std.specs.Prelude.{◌≡◌, ◌<◌, ◌≤◌, length, IfOk, IfErr, IsOkAnd};
+ghost use Rattle.srap_header.specs.Srap.{Srap, srap_of, srap, IsSrap, bytes_of, IsFault};
+
+use link_base::{Bytes, Memory};
+use std::alloc::Global;
+use thiserror::Error;
+
+/// The fields of a SRAP data PDU (TS 38.351 clause 6.2.2).
+#[derive(Clone, Copy, Debug, PartialEq, Eq)]
+pub struct SrapView<'a> {
+    /// BEARER ID, from 0 to 31: the identity of the data radio bearer minus 1.
+    pub bearer: u8,
+    /// UE ID: the local identity of the remote.
+    pub ue: u8,
+    /// The data field, a PDCP PDU of at least one octet.
+    pub body: &'a [u8],
+}
+
+/// Why octets are no SRAP data PDU.
+#[derive(Clone, Copy, Debug, PartialEq, Eq, Error)]
+pub enum SrapFault {
+    /// There is no octet, or one of a data PDU alone.
+    #[error("short")]
+    Short,
+    /// D/C is 0: it is a control PDU.
+    #[error("control")]
+    Control,
+    /// No octet follows the header.
+    #[error("no-body")]
+    NoBody,
+}
+
+/// The fields of a SRAP data PDU (TS 38.351 clause 6.2.2). Reserved bits may have any value.
+///
+/// A fault is the first that holds in this order: `Short` of no octet, `Control`, `Short` of one octet, `NoBody`.
+pub fn read(bytes: &[u8]) -> Result<SrapView<'_>, SrapFault>
+    // What is read is spelt so, and what is spelt so is read.
+    ensures read { IfOk result (λ v. IsSrap (srap_of v) bytes.now) }
+    ensures spelt { (v : Srap) → IsSrap v bytes.now → IsOkAnd result (λ w. srap_of w ≡ v) }
+    // A fault that comes is the first that holds, and the first that holds comes.
+    ensures fault { IfErr result (IsFault bytes.now) }
+    ensures refused { (fault : SrapFault) → IsFault bytes.now fault → result ≡ Err fault }
+{
+    match bytes {
+        [] => Err(SrapFault::Short),
+        [first, ..] if *first < 128 => Err(SrapFault::Control),
+        [_] => Err(SrapFault::Short),
+        [_, _] => Err(SrapFault::NoBody),
+        [first, ue, body @ ..] => Ok(SrapView {
+            bearer: *first % 32,
+            ue: *ue,
+            body,
+        }),
+    }
+}
+
+/// The octets of a SRAP data PDU, with reserved bits 0 (TS 38.351 clause 6.2.2).
+///
+/// A bearer is from 0 to 31, and a body has at least one octet.
+pub fn write(alloc: Global, bearer: u8, ue: u8, body: &[u8]) -> Result<Bytes, Memory>
+    requires bearer { bearer < 32 }
+    requires body { 1 ≤ length body.now }
+    ensures bytes { IfOk result (λ bytes. bytes ≡ bytes_of (srap bearer ue body.now)) }
+    ensures spelt { IfOk result (IsSrap (srap bearer ue body.now)) }
+{
+    let mut bytes = Bytes::new(alloc);
+    bytes.push(128 + bearer)?;
+    bytes.push(ue)?;
+    bytes.append(body)?;
+    Ok(bytes)
+}
+
+#[cfg(test)]
+mod tests {
+    use super::*;
+    use std::test::Fail;
+
+    #[test]
+    fn writes_with_reserved_bits_zero(rt: HostRuntime) -> Result<(), Fail> {
+        for (bearer, ue, want) in [
+            (0, 5, [0x80, 5, 0x61]),
+            (31, 255, [0x9f, 255, 0x61]),
+            (16, 0, [0x90, 0, 0x61]),
+        ] {
+            assert!(rt; bearer < 32);
+            let bytes = write(rt.alloc(), bearer, ue, b"a")?;
+            assert_eq!(rt; bytes.as_slice(), want.as_slice(), "bearer {bearer}");
+        }
+        Ok(())
+    }
+
+    #[test]
+    fn reads_fields(rt: HostRuntime) {
+        // All but the first and the last have reserved bits set.
+        for (bytes, bearer, ue, body) in [
+            (
+                b"\x80\x05\x80\x00hi".as_slice(),
+                0,
+                5,
+                b"\x80\x00hi".as_slice(),
+            ),
+            (b"\xe0\x05a", 0, 5, b"a"),
+            (b"\xff\xffa", 31, 255, b"a"),
+            (b"\x9f\x00\x00", 31, 0, b"\x00"),
+        ] {
+            let want = SrapView { bearer, ue, body };
+            assert_eq!(rt; read(bytes), Ok(want), "{bytes:?}");
+        }
+    }
+
+    #[test]
+    fn refuses_by_the_first_fault(rt: HostRuntime) {
+        for (bytes, want) in [
+            (b"".as_slice(), SrapFault::Short),
+            (b"\x05", SrapFault::Control),
+            (b"\x7f\x05a", SrapFault::Control),
+            (b"\x80", SrapFault::Short),
+            (b"\x80\x05", SrapFault::NoBody),
+        ] {
+            assert_eq!(rt; read(bytes), Err(want), "{bytes:?}");
+        }
+    }
+}
