@@ -1,0 +1,4 @@
+pub mod Checks
+pub mod Segments
+pub mod Asked
+pub mod Again

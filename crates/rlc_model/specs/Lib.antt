@@ -1,0 +1,10 @@
+pub mod Numbers
+pub mod Pdu
+pub mod Heard
+pub mod Rx
+pub mod Made
+pub mod Tx
+pub mod Retransmission
+pub mod Air
+pub mod Calls
+pub mod Worked
