@@ -1,0 +1,56 @@
+// The laws of a hop whose transmitter and receiver are the two ends of one air.
+ghost use Rattle.rlc_law.specs.Laws.{ReachesMore, SendsPieces, SendsInOrder, CompletesAsGiven, CompletesOnce, ConfirmsComplete, ReadsOwnNumber, ReadsOwnAck, NoneOutside, NoneBeyond, MakesTrue, StaysTrue, CompletesHeard, HeardAsGiven, NumbersBounded};
+ghost use Rattle.rlc_law.specs.Hops.{MovesKeep};
+
+/// A law: an event takes a hop that can be reached to one that can be reached.
+pub fn hop_goes_on()
+    ensures { ReachesMore }
+{}
+
+/// A law: of many hops one moves at a time, and all stay hops that can be reached.
+pub fn hops_move_apart()
+    ensures { MovesKeep }
+{}
+
+/// A law: each data PDU made is a piece of the SDU given under its number, has that number's SN and fits its format, and
+/// no place of a number is sent before a place of the number below it.
+pub fn pdus_are_pieces()
+    ensures pieces { SendsPieces }
+    ensures order { SendsInOrder }
+{}
+
+/// A law: each SDU given is handed up at most once, as it was given, and it is confirmed only where it was handed up.
+pub fn hop_is_reliable()
+    ensures as_given { CompletesAsGiven }
+    ensures once { CompletesOnce }
+    ensures confirms { ConfirmsComplete }
+{}
+
+/// A law: a PDU that isn't stale is read under the number that it was made with, and under no other. So no data PDU is
+/// outside the window or in conflict with what is held, and no STATUS speaks of what was never sent.
+pub fn pdus_are_read_as_sent()
+    ensures number { ReadsOwnNumber }
+    ensures ack { ReadsOwnAck }
+    ensures none_outside { NoneOutside }
+    ensures none_beyond { NoneBeyond }
+{}
+
+/// A law: a STATUS is true of its receiver when it is made, and what it says received is complete ever after, however old
+/// the STATUS is.
+pub fn status_is_true()
+    ensures made { MakesTrue }
+    ensures stays { StaysTrue }
+{}
+
+/// A law: a number is complete exactly where the data PDUs delivered so far, as a set of bytes by number and place, hold
+/// each byte of an SDU up to its end; and that SDU is the one given.
+pub fn what_is_complete_was_heard()
+    ensures complete { CompletesHeard }
+    ensures as_given { HeardAsGiven }
+{}
+
+/// A law: TX_Next_Ack is at most the number of data PDUs made, TX_Next lies at most a window above that, and RX_Next is at
+/// most TX_Next.
+pub fn numbers_are_bounded()
+    ensures { NumbersBounded }
+{}

@@ -1,0 +1,20 @@
+//! The laws of one hop of RLC in acknowledged mode (TS 38.322), over every run of its transmitter and its receiver.
+//!
+//! A law has no code. It is the contract of a function with an empty body, over the definitions of rlc_model; specs/ has its
+//! statement.
+#![tactic(auto)]
+
+mod hop_laws;
+mod outcome_laws;
+mod receiver_laws;
+mod transmitter_laws;
+
+pub use hop_laws::{
+    hop_goes_on, hop_is_reliable, hops_move_apart, numbers_are_bounded, pdus_are_pieces,
+    pdus_are_read_as_sent, status_is_true, what_is_complete_was_heard,
+};
+pub use outcome_laws::{receiver_has_one_outcome, transmitter_has_one_outcome};
+pub use receiver_laws::{receiver_reports_truly, receiver_stays_sound};
+pub use transmitter_laws::{
+    transmitter_confirms_what_is_received, transmitter_sends_within_its_grant,
+};
