@@ -1,0 +1,10 @@
+pub mod Waits
+pub mod Progressing
+pub mod Running
+pub mod Owed
+pub mod Sums
+pub mod Totals
+pub mod Lacking
+pub mod Timers
+pub mod Statuses
+pub mod Pdus
