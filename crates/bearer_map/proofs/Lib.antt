@@ -1,0 +1,6 @@
+mod Inserted
+mod Members
+mod Walk
+mod Ascending
+mod Ordered
+mod Kept
