@@ -1,0 +1,60 @@
+// Where a script's lines end.
+ghost use Rattle.std.specs.Prelude.{◌≡◌, ◌+◌, ◌<◌, ◌≤◌, length, ℕ, IfSome, IsNone, ◌++◌, ◌∷◌, take, drop};
+ghost use Rattle.script_text.specs.Splits.{IsNext, HasNoLf};
+
+const LF: u8 = 10;
+
+/// The greatest number of bytes of a script.
+const SCRIPT_LIMIT: usize = 16_777_216;
+
+/// The greatest number of bytes of a line, with its LF.
+const LINE_LIMIT: usize = 65_537;
+
+/// What stands next in a script.
+pub enum NextLine<'a> {
+    /// A line without its LF, and what stands behind it.
+    Line(&'a [u8], &'a [u8]),
+    /// A line of more than 65,536 bytes.
+    Long,
+    /// A line that ends, with its LF, past the script's greatest length.
+    TooLong,
+    /// Nothing is left.
+    End,
+}
+
+/// The next line of what is left of a script behind its first `used` bytes.
+pub fn next_line_of(rest: &[u8], used: usize) -> NextLine<'_>
+    requires { used ≤ 16777216 }
+    ensures { IsNext used rest.now result }
+{
+    let window = rest.len().min(LINE_LIMIT).min(SCRIPT_LIMIT - used);
+    match lf_within(&rest[..window]) {
+        Some(at) => NextLine::Line(&rest[..at], &rest[at + 1..]),
+        None => {
+            if window == LINE_LIMIT {
+                NextLine::Long
+            } else if window < rest.len() {
+                NextLine::TooLong
+            } else if rest.is_empty() {
+                NextLine::End
+            } else {
+                NextLine::Line(rest, &[])
+            }
+        }
+    }
+}
+
+/// The place of the first LF.
+fn lf_within(bytes: &[u8]) -> Option<usize>
+    ensures found { IfSome result (λ at. at < length bytes.now) }
+    ensures split { IfSome result (λ at. bytes.now ≡ take at bytes.now ++ 10 ∷ drop (at + 1) bytes.now) }
+    ensures before { IfSome result (λ at. HasNoLf (take at bytes.now)) }
+    ensures none { IsNone result → HasNoLf bytes.now }
+{
+    for (at, byte) in bytes.iter().enumerate() {
+        if *byte == LF {
+            return Some(at);
+        }
+    }
+    None
+}
