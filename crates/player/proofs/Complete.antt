@@ -1,0 +1,264 @@
+-- A run over a script of the grammar comes to its end.
+use Rattle.std.proofs.Common.{◌≡◌, ◌⊎◌, ℕ, ◌+◌, ◌<◌, ◌≤◌, true, false, is_some, unwrap_or, List, [], ◌∷◌, length, get_or, take, drop, refl, sym, ◌∙◌, ap, subst, arith, inl, inr, length-append, length-take-le}
+use Rattle.std.specs.declared.option.Option.{Option}
+use Rattle.std.specs.declared.option.Option.TheVariants.{Some, None}
+use Rattle.std.proofs.lemmas.Bool.{cases_eq, cases_lt, false≢true}
+use Rattle.std.proofs.lemmas.List.{get_or-take}
+use Rattle.std.proofs.Math.Seq.{take-append_seam, take-length, drop-append-add, get_or-append_seam}
+use Rattle.std.proofs.Math.ListN.{drop_of_length-le}
+use Rattle.script_text.specs.declared.line.Line.{Line}
+use Rattle.script_text.specs.declared.line.Line.TheVariants.{Version}
+use Rattle.script_text.specs.declared.stage.ScriptStage.{ScriptStage}
+use Rattle.script_text.specs.declared.stage.ScriptStage.TheVariants.{Start, Tables, Running, Ended}
+use Rattle.script_text.specs.Lines.{is_skipped}
+use Rattle.script_text.specs.Splits.{HasNoLf, Splits, IsLong, IsTooLong}
+use Rattle.script_text.specs.Stages.{stage_after, is_running, is_ended}
+use Rattle.script_text.specs.History.{Entry, stage_of, Reads, Spelt, MayNotStand}
+use Rattle.script_text.proofs.OneLine.{one_line}
+use Rattle.chain_model.specs.Answers.{Lawful}
+use Rattle.player.specs.declared.play.Ending.{Ending}
+use Rattle.player.specs.declared.play.Ending.TheVariants.{Done, Later, NoGo, TooLong}
+use Rattle.player.specs.Runs.{Stops, LeadsTo, ScriptsEnd}
+
+-- a line is the front of the bytes that it splits off
+line_is : (bytes line after : List ℕ) → Splits bytes line after → take (length line) bytes ≡ line
+line_is bytes line after s = elim s.ends [
+  | inl lf ↦ ap (λ (l : List ℕ). take (length line) l) lf ∙ take-append_seam line (10 ∷ after)
+  | inr end ↦ ap (λ (l : List ℕ). take (length line) l) end.0 ∙ take-length line
+]
+
+-- what stands behind a line is the bytes without it and its LF
+after_is : (bytes line after : List ℕ) → Splits bytes line after → drop (length line + 1) bytes ≡ after
+after_is bytes line after s = elim s.ends [
+  | inl lf ↦ ap (λ (l : List ℕ). drop (length line + 1) l) lf ∙ drop-append-add line (10 ∷ after) 1
+  | inr end ↦ ap (λ (l : List ℕ). drop (length line + 1) l) end.0 ∙ (drop_of_length-le line (omega arith) ∙ sym end.1)
+]
+
+-- a front without an LF goes no further than the line
+within_line : (bytes line after : List ℕ) (n : ℕ) → Splits bytes line after → n ≤ length bytes → HasNoLf (take n bytes) → n ≤ length line
+within_line bytes line after n s le none = elim (cases_lt (length line) n) [
+  | inl lt ↦ elim s.ends [
+    | inl lf ↦
+        let here : length line < length (take n bytes) = omega (arith, length-take-le n bytes le) in
+        let at : get_or (take n bytes) (length line) 0 ≡ 10 = get_or-take n bytes (length line) 0 lt ∙ (ap (λ (l : List ℕ). get_or l (length line) 0) lf ∙ get_or-append_seam line 10 after 0) in
+        absurd (none (length line) here at)
+    | inr end ↦ omega (arith, ap length end.0)
+  ]
+  | inr ge ↦ ge
+]
+
+-- a line is no longer than another that the same bytes split off
+not_longer : (bytes a x b y : List ℕ) → Splits bytes a x → Splits bytes b y → length b ≤ length a
+not_longer bytes a x b y s t =
+    let le : length b ≤ length bytes = elim t.ends [
+      | inl lf ↦ omega (arith, ap length lf, length-append b (10 ∷ y))
+      | inr end ↦ omega (arith, ap length end.0)
+    ] in
+    within_line bytes a x (length b) s le (subst HasNoLf (sym (line_is bytes b y t)) t.one)
+
+-- bytes split off one line
+splits_one : (bytes a x b y : List ℕ) → Splits bytes a x → Splits bytes b y → (a ≡ b) × (x ≡ y)
+splits_one bytes a x b y s t =
+    let ge = not_longer bytes a x b y s t in
+    let le = not_longer bytes b y a x t s in
+    let same : length a ≡ length b = omega arith in (
+      sym (line_is bytes a x s) ∙ (ap (λ (n : ℕ). take n bytes) same ∙ line_is bytes b y t),
+      sym (after_is bytes a x s) ∙ (ap (λ (n : ℕ). drop (n + 1) bytes) same ∙ after_is bytes b y t),
+    )
+
+-- no line splits off where no byte is left
+splits_none : (bytes line after : List ℕ) → bytes ≡ [] → Splits bytes line after → ⊥
+splits_none bytes line after none s = elim s.ends [
+  | inl lf ↦ omega (arith, ap length none, ap length lf, length-append line (10 ∷ after))
+  | inr end ↦ omega (arith, ap length none, ap length end.0, end.2)
+]
+
+-- as many lines of an input are the same lines
+reads_one : (input : List ℕ) (texts : List (List ℕ)) (rest : List ℕ) (texts' : List (List ℕ)) (rest' : List ℕ) → Reads input texts rest → Reads input texts' rest' → length texts ≡ length texts'
+    → (texts ≡ texts') × (rest ≡ rest')
+reads_one input [] rest [] rest' r r' many = (refl, r ∙ sym r')
+reads_one input [] rest (t ∷ texts') rest' r r' many = absurd (omega arith)
+reads_one input (t ∷ texts) rest [] rest' r r' many = absurd (omega arith)
+reads_one input (t ∷ texts) rest (t' ∷ texts') rest' r r' many =
+    let older = reads_one input texts r.0 texts' r'.0 r.1 r'.1 (omega arith) in
+    let one = splits_one r'.0 t rest t' rest' (subst (λ (l : List ℕ). Splits l t rest) older.1 r.2) r'.2 in
+    let same : t ∷ texts ≡ t' ∷ texts' = cc (older.0, one.0) in
+    (same, one.1)
+
+-- lines lead to one stage
+leads_one : (texts : List (List ℕ)) (s t : ScriptStage) → LeadsTo texts s → LeadsTo texts t → s ≡ t
+leads_one [] s t x y = x ∙ sym y
+leads_one (text ∷ texts) s t (inl x) (inl y) = leads_one texts s t x.1 y.1
+leads_one (text ∷ texts) s t (inl x) (inr y) = absurd (false≢true (sym y.0 ∙ x.0))
+leads_one (text ∷ texts) s t (inr x) (inl y) = absurd (false≢true (sym x.0 ∙ y.0))
+leads_one (text ∷ texts) s t (inr x) (inr y) =
+    let before = leads_one texts x.2 y.2 x.3 y.3 in
+    let line = one_line _ x.1 y.1 x.4 y.4 in
+    let same : Some s ≡ Some t = sym x.5 ∙ (ap (λ (u : ScriptStage). stage_after u x.1) before ∙ (ap (λ (l : Line). stage_after y.2 l) line ∙ y.5)) in
+    cc
+
+-- what there is is its value
+some_is : (o : Option ScriptStage) → is_some o ≡ true → o ≡ Some (unwrap_or o Start)
+some_is None is = absurd (false≢true is)
+some_is (Some s) is = refl
+
+-- the lines of a lawful history lead to its stage
+leads_of : (texts : List (List ℕ)) (h : List Entry) → Spelt texts h → Lawful h → LeadsTo texts (stage_of h)
+leads_of [] [] x l = refl
+leads_of [] (e ∷ h) x l = absurd x
+leads_of (text ∷ texts) [] x l = inl (x.0, leads_of texts [] x.1 l)
+leads_of (text ∷ texts) (e ∷ h) (inl x) l = inl (x.0, leads_of texts (e ∷ h) x.1 l)
+leads_of (text ∷ texts) (e ∷ h) (inr x) l = inr (x.0, e.line, stage_of h, leads_of texts h x.2 l.0, x.1, some_is _ l.1)
+
+-- lines without their newest lead to a stage too
+older_lead : (text : List ℕ) (texts : List (List ℕ)) (s : ScriptStage) → LeadsTo (text ∷ texts) s → (before : ScriptStage) × LeadsTo texts before
+older_lead text texts s (inl x) = (s, x.1)
+older_lead text texts s (inr x) = (x.2, x.3)
+
+-- no line may stand behind an ended stage
+ended_none : (s t : ScriptStage) (line : Line) → is_ended s ≡ true → stage_after s line ≡ Some t → ⊥
+ended_none Start t line is e = false≢true is
+ended_none (Tables table) t line is e = false≢true is
+ended_none (Running table) t line is e = false≢true is
+ended_none (Ended table) t (Version n) is e = absurd (cc)
+ended_none (Ended table) t line is e = absurd (cc)
+
+-- behind an ended stage the stage stays ended
+stays_ended : (text : List ℕ) (texts : List (List ℕ)) (s : ScriptStage) → ((before : ScriptStage) → LeadsTo texts before → is_ended before ≡ true) → LeadsTo (text ∷ texts) s → is_ended s ≡ true
+stays_ended text texts s ended (inl x) = ended s x.1
+stays_ended text texts s ended (inr x) = absurd (ended_none x.2 s x.1 (ended x.2 x.3) x.5)
+
+-- a script may end at this stage with this rest left
+abbrev IsEnd : ScriptStage → List ℕ → Type 0
+IsEnd stage rest = (is_ended stage ≡ true) ⊎ ((is_running stage ≡ true) × (rest ≡ []))
+
+-- a line that follows a script's end follows its end line
+ended_before : (rest text after : List ℕ) (s : ScriptStage) → IsEnd s rest → Splits rest text after → is_ended s ≡ true
+ended_before rest text after s (inl ended) splits = ended
+ended_before rest text after s (inr over) splits = absurd (splits_none rest text after over.1 splits)
+
+-- more lines than a script has lead to an ended stage
+past_end : (input : List ℕ) (texts : List (List ℕ)) (rest : List ℕ) (s : ScriptStage) (whole : List (List ℕ)) (end : List ℕ) (last : ScriptStage) → Reads input texts rest → Reads input whole end → LeadsTo texts s → LeadsTo whole last
+    → IsEnd last end → length whole < length texts → is_ended s ≡ true
+past_end input [] rest s whole end last r w l m is more = absurd (omega arith)
+past_end input (text ∷ texts) rest s whole end last r w l m is more = stays_ended text texts s (λ before x.
+    elim (cases_eq (length texts) (length whole)) [
+      | inl many ↦
+          let same = reads_one input texts r.0 whole end r.1 w many in
+          let ended = ended_before r.0 text rest last (subst (λ (b : List ℕ). IsEnd last b) (sym same.1) is) r.2 in
+          ap is_ended (leads_one whole before last (subst (λ (t : List (List ℕ)). LeadsTo t before) same.0 x) m) ∙ ended
+      | inr ne ↦ past_end input texts r.0 before whole end last r.1 w x m is (omega arith)
+    ]) l
+
+-- the script has a line behind these, which stands where it may
+record GoesOn (input : List ℕ) (texts : List (List ℕ)) (rest : List ℕ) : Type 0 where
+  pub text : List ℕ
+  pub after : List ℕ
+  pub stage : ScriptStage
+  pub splits : Splits rest text after
+  pub short : length text ≤ 65536
+  pub limit : length input ≤ 16777216 + length after
+  pub leads : LeadsTo (text ∷ texts) stage
+
+-- fewer lines than a script has go on in it
+goes_on : (input : List ℕ) (texts : List (List ℕ)) (rest : List ℕ) (whole : List (List ℕ)) (end : List ℕ) (last : ScriptStage) → Reads input texts rest → Reads input whole end → LeadsTo whole last → length texts < length whole
+    → GoesOn input texts rest
+goes_on input texts rest [] end last r w l less = absurd (omega arith)
+goes_on input texts rest (text ∷ whole) end last r w l less = elim (cases_eq (length texts) (length whole)) [
+  | inl many ↦
+      let same = reads_one input texts rest whole w.0 r w.1 many in
+      record {
+        text = text;
+        after = end;
+        stage = last;
+        splits = subst (λ (b : List ℕ). Splits b text end) (sym same.1) w.2;
+        short = w.3;
+        limit = w.4;
+        leads = subst (λ (t : List (List ℕ)). LeadsTo (text ∷ t) last) (sym same.0) l;
+      }
+  | inr ne ↦
+      let older = older_lead text whole last l in
+      goes_on input texts rest whole w.0 older.0 r w.1 older.1 (omega arith)
+]
+
+-- a line of at most 65,536 bytes isn't long
+long_stops : (used : ℕ) (rest text after : List ℕ) → Splits rest text after → length text ≤ 65536 → IsLong used rest → ⊥
+long_stops used rest text after splits short long =
+    let past = within_line rest text after 65537 splits long.enough long.one in
+    omega arith
+
+-- a line that leads on may stand
+next_stands : (texts : List (List ℕ)) (text : List ℕ) (s t : ScriptStage) → LeadsTo texts s → is_skipped text ≡ false → LeadsTo (text ∷ texts) t → MayNotStand text s → ⊥
+next_stands texts text s t l keep (inl x) none = false≢true (sym keep ∙ x.0)
+next_stands texts text s t l keep (inr x) none =
+    let same = leads_one texts s x.2 l x.3 in
+    let stands : stage_after s x.1 ≡ Some t = ap (λ (u : ScriptStage). stage_after u x.1) same ∙ x.5 in
+    let stops = none x.1 x.4 in
+    absurd (cc)
+
+-- a line that ends in time isn't too long
+too_long_stops : (input rest text after : List ℕ) (used : ℕ) → used + length rest ≡ length input → Splits rest text after → length input ≤ 16777216 + length after → IsTooLong used rest → ⊥
+too_long_stops input rest text after used place splits limit long =
+    let past = within_line rest text after long.left splits (omega (arith, long.past, long.place)) long.one in
+    elim splits.ends [
+      | inl lf ↦ omega (arith, ap length lf, length-append text (10 ∷ after), long.place)
+      | inr end ↦ omega (arith, ap length end.1, long.past)
+    ]
+
+-- a run doesn't stop where the script goes on
+going_on_done : (input : List ℕ) (texts : List (List ℕ)) (h : List Entry) (used : ℕ) (rest : List ℕ) (ending : Ending) (out : List ℕ) → used + length rest ≡ length input → LeadsTo texts (stage_of h) → GoesOn input texts rest
+    → Stops texts h used rest ending out → ending ≡ Done
+going_on_done input texts h used rest Done out place l g x = refl
+going_on_done input texts h used rest Later out place l g x = elim x.1 [
+  | inl long ↦ absurd (long_stops used rest g.text g.after g.splits g.short long)
+  | inr bad ↦
+      let same = splits_one rest bad.0 bad.1.0 g.text g.after bad.1.1 g.splits in
+      let keep : is_skipped g.text ≡ false = ap is_skipped (sym same.0) ∙ bad.1.3 in
+      absurd (next_stands texts g.text (stage_of h) g.stage l keep g.leads (subst (λ (t : List ℕ). MayNotStand t (stage_of h)) same.0 bad.2))
+]
+going_on_done input texts h used rest NoGo out place l g x = absurd (splits_none rest g.text g.after x.2 g.splits)
+going_on_done input texts h used rest TooLong out place l g x = absurd (too_long_stops input rest g.text g.after used place g.splits g.limit x.1)
+
+-- the last of the lines that lead behind go ends in time
+ends_in_time : (input : List ℕ) (texts : List (List ℕ)) (rest : List ℕ) (s : ScriptStage) → Reads input texts rest → LeadsTo texts s → is_running s ≡ true → length input ≤ 16777216 + length rest
+ends_in_time input [] rest s r l is = absurd (false≢true (sym (ap is_running l) ∙ is))
+ends_in_time input (text ∷ texts) rest s r l is = r.4
+
+-- behind go, at the input's end, a run comes to its end
+over_stops : (input : List ℕ) (texts : List (List ℕ)) (h : List Entry) (used : ℕ) (rest : List ℕ) (ending : Ending) (out : List ℕ) → used + length rest ≡ length input → Reads input texts rest → LeadsTo texts (stage_of h)
+    → is_running (stage_of h) ≡ true → rest ≡ [] → Stops texts h used rest ending out → ending ≡ Done
+over_stops input texts h used rest Done out place r l is none x = refl
+over_stops input texts h used rest Later out place r l is none x = elim x.1 [
+  | inl long ↦ absurd (omega (arith, ap length none, long.enough))
+  | inr bad ↦ absurd (splits_none rest bad.0 bad.1.0 none bad.1.1)
+]
+over_stops input texts h used rest NoGo out place r l is none x = absurd (false≢true (sym x.1 ∙ is))
+over_stops input texts h used rest TooLong out place r l is none x =
+    let limit = ends_in_time input texts rest (stage_of h) r l is in
+    absurd (omega (arith, ap length none, x.1.past))
+
+-- behind an end line too
+ended_stops : (texts : List (List ℕ)) (h : List Entry) (used : ℕ) (rest : List ℕ) (ending : Ending) (out : List ℕ) → is_ended (stage_of h) ≡ true → Stops texts h used rest ending out → ending ≡ Done
+ended_stops texts h used rest Done out is x = refl
+ended_stops texts h used rest Later out is x = absurd (false≢true (sym x.0 ∙ is))
+ended_stops texts h used rest NoGo out is x = absurd (false≢true (sym x.0 ∙ is))
+ended_stops texts h used rest TooLong out is x = absurd (false≢true (sym x.0 ∙ is))
+
+pub scripts_end : ScriptsEnd
+scripts_end input ending out run script =
+    let h = run.history in
+    let leads : LeadsTo run.texts (stage_of h) = leads_of run.texts h run.spelt run.lawful in
+    elim (cases_lt (length run.texts) (length script.texts)) [
+      | inl less ↦ going_on_done input run.texts h run.used run.rest ending out run.place leads (goes_on input run.texts run.rest script.texts script.rest script.stage run.reads script.reads script.leads less) run.stops
+      | inr more ↦ elim (cases_eq (length run.texts) (length script.texts)) [
+        | inl many ↦
+            let same = reads_one input run.texts run.rest script.texts script.rest run.reads script.reads many in
+            let stage : script.stage ≡ stage_of h = leads_one script.texts script.stage (stage_of h) script.leads (subst (λ (t : List (List ℕ)). LeadsTo t (stage_of h)) same.0 leads) in
+            elim script.ends [
+              | inl ended ↦ ended_stops run.texts h run.used run.rest ending out (ap is_ended (sym stage) ∙ ended) run.stops
+              | inr over ↦ over_stops input run.texts h run.used run.rest ending out run.place run.reads leads (ap is_running (sym stage) ∙ over.0) (same.1 ∙ over.1) run.stops
+            ]
+        | inr ne ↦ ended_stops run.texts h run.used run.rest ending out
+            (past_end input run.texts run.rest (stage_of h) script.texts script.rest script.stage run.reads script.reads leads script.leads script.ends (omega arith)) run.stops
+      ]
+    ]

@@ -1,0 +1,5 @@
+pub mod Outcome
+pub mod Plays
+pub mod Receives
+pub mod Runs
+pub mod Stands

@@ -1,0 +1,42 @@
+-- What the top call makes of a source, a sink and its words.
+use Rattle.std.specs.Prelude.{◌≡◌, ℕ, ◌<◌, ◌≤◌, List, [], ◌∷◌, ◌++◌, length, codes}
+use Rattle.std.specs.declared.option.Option.{Option}
+use Rattle.std.specs.Io.KnownBytes.{Consumes, Appends, IsAtEnd}
+use Rattle.link_io.specs.Bytes.{AppendsFront}
+use Rattle.player.specs.declared.play.Ending.{Ending}
+use Rattle.player.specs.declared.play.Ending.TheVariants.{Done, Later, NoGo, TooLong}
+use Rattle.player.specs.Runs.{IsRun, IsScript}
+
+-- these bytes were read: all there were, or the longest script and one byte more
+pub record IsInput (old new : Option (List ℕ)) (input : List ℕ) : Type 0 where
+  pub taken : Consumes old new input
+  pub limit : length input ≤ 16777217
+  pub whole : length input < 16777217 → IsAtEnd new
+
+-- the bytes read were run, with this ending, which is done where they are a script of the grammar, and its text was written
+pub record IsPlayed (left left' written written' : Option (List ℕ)) (ending : Ending) : Type 0 where
+  pub input : List ℕ
+  pub text : List ℕ
+  pub is_input : IsInput left left' input
+  pub is_run : IsRun input ending text
+  pub whole : IsScript input → ending ≡ Done
+  pub is_written : Appends written written' text
+
+-- the bytes read were run, and a front of its text was written
+pub record IsCutOff (left left' written written' : Option (List ℕ)) : Type 0 where
+  pub input : List ℕ
+  pub ending : Ending
+  pub text : List ℕ
+  pub is_input : IsInput left left' input
+  pub is_run : IsRun input ending text
+  pub is_front : AppendsFront written written' text
+
+-- the status of a run that came to its end
+abbrev pub status_of : Ending → ℕ
+status_of Done = 0
+status_of Later = 1
+status_of NoGo = 1
+status_of TooLong = 6
+
+abbrev pub usage_text : List ℕ
+usage_text = codes "usage: relayplay play | work | show FORM HEX | load N" ++ 10 ∷ []
