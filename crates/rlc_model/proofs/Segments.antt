@@ -147,13 +147,13 @@ sends_segments tag = (
 )
 
 -- the three segments
-abbrev last_piece : Amd
+abbrev pub last_piece : Amd
 last_piece = record { sn = 0; poll = true; si = Last; so = 7; body = 6 ∷ 7 ∷ 8 ∷ 9 ∷ 10 ∷ [] }
 
-abbrev first_piece : Amd
+abbrev pub first_piece : Amd
 first_piece = record { sn = 0; poll = false; si = First; so = 0; body = 128 ∷ 0 ∷ 1 ∷ [] }
 
-abbrev middle_piece : Amd
+abbrev pub middle_piece : Amd
 middle_piece = record { sn = 0; poll = false; si = Middle; so = 3; body = 2 ∷ 3 ∷ 4 ∷ 5 ∷ [] }
 
 -- what is held behind each of them

@@ -1,0 +1,11 @@
+pub mod Entered
+pub mod Got
+pub mod Hearing
+pub mod Held
+pub mod Numbers
+pub mod Placing
+pub mod Runs
+pub mod Seen
+pub mod Soundness
+pub mod Timer
+pub mod Writing

@@ -1,0 +1,14 @@
+use Rattle.rlc_am_rx.proofs.Hearing.{hears_if_placed}
+use Rattle.rlc_am_rx.proofs.receiver.AmRx.hear.Goals as goal
+
+pub returns-then-conflicts-clause-ok : goal.returns-then-conflicts-clause-ok
+returns-then-conflicts-clause-ok c =
+    (c.in-Some.number, rw (← c.size.ensures, ← c.next.ensures) c.in-Some.ensures.near, c.if-is_repeat.ensures, c.if-conflicts.ensures, c.poll_at_once-then-conflicts.ensures)
+
+pub place-requires-clause-near : goal.place-requires-clause-near
+place-requires-clause-near c = rw (← c.size.ensures, ← c.next.ensures) c.in-Some.ensures.near
+
+pub returns-clause-ok : goal.returns-clause-ok
+returns-clause-ok c =
+    hears_if_placed c.args.self.now c.args.pdu.now c.in-Some.number _ _ (rw (← c.size.ensures, ← c.next.ensures) c.in-Some.ensures.near)
+    c.if-is_repeat.ensures c.if-conflicts.ensures c.place.ensures.ok

@@ -1,0 +1,9 @@
+pub mod Assembly
+pub mod Entries
+pub mod Hearing
+pub mod Places
+pub mod Polls
+pub mod Received
+pub mod Receiver
+pub mod Report
+pub mod Seen

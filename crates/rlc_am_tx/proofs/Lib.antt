@@ -1,0 +1,9 @@
+pub mod Numbers
+pub mod Pushed
+pub mod Order
+pub mod Marked
+pub mod Waiting
+pub mod Bounds
+pub mod Sent
+pub mod Slices
+pub mod Retransmitted

@@ -1,0 +1,226 @@
+-- A list of SDUs in which one was sent further.
+use Rattle.std.proofs.Common.{◌≡◌, ◌≢◌, ◌⊎◌, inl, inr, ℕ, ◌+◌, ◌-◌, ◌<◌, ◌≤◌, true, false, Bool, not, List, length, get_or, set, is_some, cond, Option, Some, None, refl, sym, ◌∙◌, ap, subst, arith, get_or-set_same, get_or-set_other}
+use Rattle.std.specs.Option.{is_none}
+use Rattle.std.proofs.lemmas.Bool.{cases_lt, cases_eq, false≢true}
+use Rattle.std.proofs.lemmas.Bool.Decides.{nat_tests}
+use Rattle.std.proofs.lemmas.List.{get_or_past, length-set}
+use Rattle.std.proofs.lemmas.List.Folds.{prefix_len-set}
+use Rattle.std.proofs.lemmas.List.Sums.{sum_by-set}
+use Rattle.std.proofs.lemmas.Option.{none-some, same_Some}
+use Rattle.rlc_model.specs.Numbers.{IsFirst}
+use Rattle.rlc_model.specs.Tx.{Kept, is_unsent, is_pending, Clears}
+use Rattle.rlc_am_tx.specs.declared.pieces.Piece.{Piece}
+use Rattle.rlc_am_tx.specs.Buffer.{at, kept_from, IsSdu, IsInOrder}
+use Rattle.rlc_am_tx.specs.Pieces.{WaitsAmong, IsNextPiece, pending, unsent, MarksSlot, MarksSent, MovesUnsent, moves, stays}
+use Rattle.rlc_am_tx.specs.Inside.{IsTidy}
+use Rattle.rlc_am_tx.proofs.Numbers.{given, kept_below, kept_slot, kept_long}
+
+-- the SDU of one number is replaced
+pub record IsSetAt (l : List (Option Kept)) (n : ℕ) (x : Option Kept) (new : List (Option Kept)) : Type 0 where
+  pub this : at new n ≡ x
+  pub others : (m : ℕ) → m ≢ n → at new m ≡ at l m
+  pub long : length new ≡ length l
+
+-- a number that has an SDU has a slot
+pub has_slot : (base : ℕ) (slots : List (Option Kept)) (n : ℕ) (k : Kept) → at (kept_from base slots) n ≡ Some k → (base ≤ n) × (n - base < length slots) × (at slots (n - base) ≡ Some k)
+has_slot base slots n k is =
+    let ge : base ≤ n = elim (cases_lt n base) [ inl lt ↦ absurd (none-some k (sym (kept_below base slots n lt) ∙ is)) | inr ge ↦ ge ] in
+    let here : at slots (n - base) ≡ Some k = sym (kept_slot base slots n ge) ∙ is in
+    (ge, given slots (n - base) k here, here)
+
+pub kept_set : (base : ℕ) (slots : List (Option Kept)) (n : ℕ) (x : Option Kept) → base ≤ n → n - base < length slots → IsSetAt (kept_from base slots) n x (kept_from base (set slots (n - base) x))
+kept_set base slots n x ge lt = record {
+  this = kept_slot base (set slots (n - base) x) n ge ∙ get_or-set_same slots (n - base) x None lt;
+  others = λ m ne. elim (cases_lt m base) [
+    | inl below ↦ kept_below base (set slots (n - base) x) m below ∙ sym (kept_below base slots m below)
+    | inr from ↦ kept_slot base (set slots (n - base) x) m from ∙ get_or-set_other slots (n - base) (m - base) x None (λ e. ne (omega (arith, e, ge, from))) ∙ sym (kept_slot base slots m from)
+  ];
+  long = kept_long base (set slots (n - base) x) ∙ ap {B = ℕ} (λ m. base + m) (length-set slots (n - base) x) ∙ sym (kept_long base slots);
+}
+
+-- what holds of the new SDU, and of each other one, holds of each
+pub set_each : (l : List (Option Kept)) (n : ℕ) (x : Option Kept) (new : List (Option Kept)) (P : ℕ → Option Kept → Type 0) → IsSetAt l n x new → P n x → ((m : ℕ) → m ≢ n → P m (at l m)) → (m : ℕ) → P m (at new m)
+set_each l n x new P s this others m = elim (cases_eq m n) [
+  | inl eq ↦ subst (λ j. P j (at new j)) (sym eq) (subst (P n) (sym s.this) this)
+  | inr ne ↦ subst (P m) (sym (s.others m ne)) (others m ne)
+]
+
+pub same_lengths : (k k' : Kept) → k'.sdu ≡ k.sdu → length k'.flags ≡ length k.flags → is_unsent (Some k') ≡ is_unsent (Some k)
+same_lengths k k' sdu sent = let long = ap length sdu in grind (arith, nat_tests)
+
+-- an SDU that was sent further: it is the lowest unsent one, or no byte of it was sent for the first time
+pub record IsFurther (k k' : Kept) (n u : ℕ) : Type 0 where
+  pub sdu : k'.sdu ≡ k.sdu
+  pub within : length k'.flags ≤ length k.sdu
+  pub order : (length k'.flags ≡ length k.flags) ⊎ (n ≡ u)
+
+module _ (l : List (Option Kept)) (n u : ℕ) (k k' : Kept) (new : List (Option Kept)) (i : IsInOrder l u) (is : at l n ≡ Some k) (s : IsSetAt l n (Some k') new) (f : IsFurther k k' n u) where
+  sdus : (m : ℕ) (x : Kept) → at new m ≡ Some x → IsSdu x
+  sdus m x = set_each l n (Some k') new (λ j o. o ≡ Some x → IsSdu x) s
+      (λ e. subst IsSdu (same_Some k' x e) (let was = i.sdus n k is in record { some = rw f.sdu was.some; long = rw f.sdu was.long; sent = rw f.sdu f.within }))
+      (λ j ne e. i.sdus j x e) m
+
+  apart : n ≢ u → is_unsent (Some k') ≡ is_unsent (at l n)
+  apart ne = elim f.order [ inl sent ↦ same_lengths k k' f.sdu sent ∙ sym (ap is_unsent is) | inr eq ↦ absurd (ne eq) ]
+
+  above : (m : ℕ) (x : Kept) → u < m → at new m ≡ Some x → length x.flags ≡ 0
+  above m x = set_each l n (Some k') new (λ j o. u < j → o ≡ Some x → length x.flags ≡ 0) s
+      (λ gt e. elim f.order [
+        | inl sent ↦ ap (λ (y : Kept). length y.flags) (sym (same_Some k' x e)) ∙ sent ∙ i.above n k gt is
+        | inr eq ↦ absurd (omega (arith, gt, eq))
+      ])
+      (λ j ne gt e. i.above j x gt e) m
+
+  -- not all bytes of the lowest unsent one were
+  pub order_same : (n ≡ u → is_unsent (Some k') ≡ true) → IsInOrder new u
+  order_same open_ = record {
+    sdus = sdus;
+    limit = omega (arith, s.long, i.limit);
+    below = set_each l n (Some k') new (λ j o. j < u → is_unsent o ≡ false) s (λ lt. apart (λ e. omega (arith, lt, e)) ∙ i.below n lt) (λ j ne lt. i.below j lt);
+    from = set_each l n (Some k') new (λ j o. u ≤ j → j < length new → is_unsent o ≡ true) s
+        (λ ge lt. elim (cases_eq n u) [ inl eq ↦ open_ eq | inr ne ↦ apart ne ∙ i.from n ge (omega (arith, lt, s.long)) ])
+        (λ j ne ge lt. i.from j ge (omega (arith, lt, s.long)));
+    above = above;
+  }
+
+  -- they were
+  pub order_next : n ≡ u → is_unsent (Some k') ≡ false → IsInOrder new (u + 1)
+  order_next eq whole = record {
+    sdus = sdus;
+    limit = omega (arith, s.long, given l n k is, eq);
+    below = set_each l n (Some k') new (λ j o. j < u + 1 → is_unsent o ≡ false) s (λ lt. whole) (λ j ne lt. i.below j (omega (arith, lt, ne, eq)));
+    from = set_each l n (Some k') new (λ j o. u + 1 ≤ j → j < length new → is_unsent o ≡ true) s (λ ge lt. absurd (omega (arith, ge, eq))) (λ j ne ge lt. i.from j (omega (arith, ge)) (omega (arith, lt, s.long)));
+    above = λ m x gt e. above m x (omega (arith, gt)) e;
+  }
+
+-- bytes that were sent are no more pending
+cleared : (old : List Bool) (a e : ℕ) (new : List Bool) → Clears old a e new → (p : ℕ) → get_or new p false ≡ true → get_or old p false ≡ true
+cleared old a e new c p is = elim (cases_lt p a) [
+  | inl lt ↦ sym (c.rest p (inl lt)) ∙ is
+  | inr ge ↦ elim (cases_lt p e) [
+    | inl lt ↦ absurd (false≢true (sym (c.sent p ge lt) ∙ is))
+    | inr past ↦ sym (c.rest p (inr past)) ∙ is
+  ]
+]
+
+waiting_marked : (l : List (Option Kept)) (n first : ℕ) (k k' : Kept) (new : List (Option Kept)) (Waits : ℕ → Type 0) (a e : ℕ) → at l n ≡ Some k → IsSetAt l n (Some k') new → Clears k.flags a e k'.flags → WaitsAmong l first Waits → WaitsAmong new first Waits
+waiting_marked l n first k k' new Waits a e is s c w m p = set_each l n (Some k') new (λ j o. is_pending o p ≡ true → (j ≡ first) ⊎ Waits j) s (λ set_. w n p (ap (λ (o : Option Kept). is_pending o p) is ∙ cleared k.flags a e k'.flags c p set_)) (λ j ne set_. w j p set_) m
+
+not_true : (b : Bool) → not b ≡ true → b ≡ false
+not_true true is = absurd (false≢true is)
+not_true false is = refl
+
+not_false : (b : Bool) → not b ≡ false → b ≡ true
+not_false true is = refl
+not_false false is = absurd (false≢true (sym is))
+
+-- the piece that is next, its SDU and what sending it does
+pub record IsMarked (base : ℕ) (slots : List (Option Kept)) (unsent : ℕ) (piece : Piece) (end : ℕ) (new : Option Kept) : Type 0 where
+  pub kept : Kept
+  pub sent : Kept
+  pub is : at (kept_from base slots) piece.number ≡ Some kept
+  pub becomes : new ≡ Some sent
+  pub clears : Clears kept.flags piece.from end sent.flags
+  pub further : IsFurther kept sent piece.number unsent
+
+-- the lowest number with unsent bytes
+unsent_is : (l : List (Option Kept)) (u n : ℕ) → IsInOrder l u → IsFirst (λ m. is_unsent (at l m) ≡ true) 0 n → n ≡ u
+unsent_is l u n i f =
+    elim (cases_lt n u) [
+      | inl lt ↦ absurd (false≢true (sym (i.below n lt) ∙ f.has))
+      | inr ge ↦ elim (cases_eq n u) [
+        | inl eq ↦ eq
+        | inr ne ↦
+            let lt : n < length l = elim (cases_lt n (length l)) [ inl lt ↦ lt | inr past ↦ absurd (false≢true (sym (ap is_unsent (get_or_past l n None past)) ∙ f.has)) ] in
+            absurd (f.none u (omega arith) (omega (arith, ge, ne)) (i.from u (omega arith) (omega (arith, ge, lt))))
+      ]
+    ]
+
+slot_kept : (o : Option Kept) (k : Kept) → o ≡ Some k → o ≢ None
+slot_kept o k is e = none-some k (sym e ∙ is)
+
+-- a piece that is next has an SDU
+pub next_kept : (l : List (Option Kept)) (piece : Piece) → IsNextPiece l piece → (k : Kept) × (at l piece.number ≡ Some k)
+next_kept l piece (pending p) = (p.here.kept, p.here.is)
+next_kept l piece (unsent none p) = (p.kept, p.is)
+
+pub next_slot : (base : ℕ) (slots : List (Option Kept)) (piece : Piece) → IsNextPiece (kept_from base slots) piece → (piece.number - base < length slots) × (at slots (piece.number - base) ≢ None)
+next_slot base slots piece n =
+    let k = next_kept (kept_from base slots) piece n in
+    let h = has_slot base slots piece.number k.0 k.1 in
+    (h.1, slot_kept _ k.0 h.2)
+
+is_marked : (base : ℕ) (slots : List (Option Kept)) (u : ℕ) (piece : Piece) (end : ℕ) (new : Option Kept) → IsInOrder (kept_from base slots) u → IsNextPiece (kept_from base slots) piece → piece.from < end → end ≤ piece.to → MarksSlot (at slots (piece.number - base)) piece.from end new → IsMarked base slots u piece end new
+is_marked base slots u piece end new i (pending p) some within m =
+    let h = has_slot base slots piece.number p.here.kept p.here.is in
+    let same : p.here.kept ≡ m.kept = same_Some p.here.kept m.kept (sym h.2 ∙ m.was) in
+    let clears : Clears p.here.kept.flags piece.from end m.flags = subst (λ (k : Kept). Clears k.flags piece.from end m.flags) (sym same) m.clears in
+    let sdu = i.sdus piece.number p.here.kept p.here.is in
+    let long : length m.flags ≡ length p.here.kept.flags = omega (arith, clears.long, p.here.within, within) in
+    record {
+      kept = p.here.kept;
+      sent = record p.here.kept { flags = m.flags };
+      is = p.here.is;
+      becomes = m.is ∙ ap (λ (k : Kept). Some (record k { flags = m.flags })) (sym same);
+      clears = clears;
+      further = record { sdu = refl; within = omega (arith, long, sdu.sent); order = inl long };
+    }
+is_marked base slots u piece end new i (unsent none p) some within m =
+    let h = has_slot base slots piece.number p.kept p.is in
+    let same : p.kept ≡ m.kept = same_Some p.kept m.kept (sym h.2 ∙ m.was) in
+    let clears : Clears p.kept.flags piece.from end m.flags = subst (λ (k : Kept). Clears k.flags piece.from end m.flags) (sym same) m.clears in
+    let sdu = i.sdus piece.number p.kept p.is in
+    record {
+      kept = p.kept;
+      sent = record p.kept { flags = m.flags };
+      is = p.is;
+      becomes = m.is ∙ ap (λ (k : Kept). Some (record k { flags = m.flags })) (sym same);
+      clears = clears;
+      further = record { sdu = refl; within = omega (arith, clears.long, p.to, within, sdu.sent); order = inr (unsent_is (kept_from base slots) u piece.number i p.first) };
+    }
+
+module _ (base : ℕ) (slots : List (Option Kept)) (count u : ℕ) (Waits : ℕ → Type 0) (piece : Piece) (end : ℕ) (new : Option Kept) (t : IsTidy base slots count u Waits) (next : IsNextPiece (kept_from base slots) piece) (some : piece.from < end) (within : end ≤ piece.to) (m : MarksSlot (at slots (piece.number - base)) piece.from end new) where
+  marked : IsMarked base slots u piece end new
+  marked = is_marked base slots u piece end new t.order next some within m
+
+  abbrev slots' : List (Option Kept)
+  slots' = set slots (piece.number - base) new
+
+  pub marked_set : IsSetAt (kept_from base slots) piece.number new (kept_from base slots')
+  marked_set = let h = has_slot base slots piece.number marked.kept marked.is in kept_set base slots piece.number new h.0 h.1
+
+  set_some : IsSetAt (kept_from base slots) piece.number (Some marked.sent) (kept_from base slots')
+  set_some = subst (λ (o : Option Kept). IsSetAt (kept_from base slots) piece.number o (kept_from base slots')) marked.becomes marked_set
+
+  rest : (u' : ℕ) → u ≤ u' → IsInOrder (kept_from base slots') u' → IsTidy base slots' count u' Waits
+  rest u' le order =
+      let h = has_slot base slots piece.number marked.kept marked.is in
+      let i = piece.number - base in
+      let counted = sum_by-set (λ (o : Option Kept). cond (is_some o) 1 0) slots i new None h.1 in
+      record {
+        small = omega (arith, t.small, length-set slots i new);
+        front = prefix_len-set is_none slots i new None (ap is_none marked.becomes ∙ sym (ap is_none h.2)) ∙ t.front;
+        count = omega (arith, t.count, counted, ap {B = ℕ} (λ (o : Option Kept). cond (is_some o) 1 0) marked.becomes, ap {B = ℕ} (λ (o : Option Kept). cond (is_some o) 1 0) h.2);
+        acked = omega (arith, t.acked, le);
+        order = order;
+        waiting = waiting_marked (kept_from base slots) piece.number base marked.kept marked.sent (kept_from base slots') Waits piece.from end marked.is set_some marked.clears t.waiting;
+      }
+
+  -- the lowest number with unsent bytes stays, or it is the next
+  pub marked_tidy : (u' : ℕ) → MovesUnsent u piece.number (not (is_unsent new)) u' → IsTidy base slots' count u' Waits
+  marked_tidy u' (moves eq whole is) =
+      let sent : is_unsent (Some marked.sent) ≡ false = sym (ap is_unsent marked.becomes) ∙ not_true (is_unsent new) whole in
+      rest u' (omega (arith, is)) (subst (IsInOrder (kept_from base slots')) (sym is) (order_next (kept_from base slots) piece.number u marked.kept marked.sent (kept_from base slots') t.order marked.is set_some marked.further eq sent))
+  marked_tidy u' (stays why is) =
+      rest u' (omega (arith, is)) (subst (IsInOrder (kept_from base slots')) (sym is) (order_same (kept_from base slots) piece.number u marked.kept marked.sent (kept_from base slots') t.order marked.is set_some marked.further
+      (λ eq. elim why [ inl ne ↦ absurd (ne eq) | inr part ↦ sym (ap is_unsent marked.becomes) ∙ not_false (is_unsent new) part ])))
+
+  pub marked_sent : MarksSent (kept_from base slots) piece.number piece.from end (kept_from base slots')
+  marked_sent =
+      let h = has_slot base slots piece.number marked.kept marked.is in
+      let here : at slots (piece.number - base) ≡ at (kept_from base slots) piece.number = h.2 ∙ sym marked.is in
+      record {
+        slot = subst (λ (o : Option Kept). MarksSlot o piece.from end (at (kept_from base slots') piece.number)) here (subst (MarksSlot (at slots (piece.number - base)) piece.from end) (sym marked_set.this) m);
+        others = marked_set.others;
+        long = marked_set.long;
+      }

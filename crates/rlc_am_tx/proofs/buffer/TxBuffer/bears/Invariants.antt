@@ -1,0 +1,6 @@
+use Rattle.std.proofs.Common.{ℕ, ◌<◌}
+use Rattle.rlc_am_tx.specs.Buffer.{at, BearsOne}
+use Rattle.rlc_am_tx.proofs.buffer.TxBuffer.bears.Given as goal
+
+abbrev pub invariant-loop-index : goal.invariant-loop-index
+invariant-loop-index l = (i : ℕ) → i < l.index → BearsOne (at l.self-inside.slots.items i) l.ue → ⊥

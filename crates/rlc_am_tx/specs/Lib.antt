@@ -1,0 +1,9 @@
+pub mod Flags
+pub mod Buffer
+pub mod Pieces
+pub mod Inside
+pub mod Transmitter
+pub mod Giving
+pub mod Polling
+pub mod Sending
+pub mod Retransmitting

@@ -1,0 +1,298 @@
+// The transmitting side of an RLC entity in acknowledged mode.
+ghost use Rattle.std.specs.Prelude.{◌≡◌, ◌+◌, ◌-◌, ◌<◌, ◌≤◌, ◌^◌, false, length, slice_index, IfOk, IfErr, OnErr};
+ghost use Rattle.std.specs.List.{prefix_len};
+ghost use Rattle.std.specs.Option.{is_none};
+ghost use Rattle.std.specs.Bool.{MatchBool};
+ghost use Rattle.link_base.specs.SequenceNumbers.{window};
+ghost use Rattle.rlc_pdu.specs.Amd.{bytes_of};
+ghost use Rattle.rlc_model.specs.Pdu.{si_of};
+ghost use Rattle.rlc_model.specs.Tx.{empty_tx, tx_next, tx_next_ack, room, unconfirmed, header, Gives, Grants};
+ghost use Rattle.rlc_model.specs.Calls.{Bears, ExpiresPollAs};
+ghost use Rattle.rlc_am_tx.specs.Giving.{GivesBack};
+ghost use Rattle.rlc_am_tx.specs.Pieces.{IsNextPiece, IsInside};
+ghost use Rattle.rlc_am_tx.specs.Sending.{piece_of, SendsPiece, HasPoll, AddsPoll};
+
+use crate::buffer::TxBuffer;
+use crate::pieces::Piece;
+use crate::polling::Polling;
+use link_base::{Bytes, Expired, LocalId, Memory, SnSize, Tag};
+use rlc_model::TxGrant;
+use rlc_pdu::{AmdView, Si, encode_amd};
+use std::alloc::Global;
+use std::marker::Model;
+use thiserror::Error;
+
+/// Why an SDU was not taken. It gives the SDU back.
+#[derive(Debug, Drop, Error)]
+pub enum GiveFault {
+    /// The transmitting window is full.
+    #[error("the transmitting window is full")]
+    NoRoom(Bytes),
+    /// Memory was refused.
+    #[error("memory was refused")]
+    Memory(Bytes),
+}
+
+/// The transmitting side of an RLC entity in acknowledged mode (TS 38.322 clause 5.2.3.1). It speaks of numbers, which
+/// are not cut to the bits of a sequence number.
+#[derive(Drop)]
+pub struct AmTx {
+    alloc: Global,
+    size: SnSize,
+    max_retx_threshold: u8,
+    buffer: TxBuffer,
+    polling: Polling,
+    // How often a PDU was sent or a STATUS PDU heard, or more: no counter can be greater than this allows.
+    changes: u64,
+}
+
+impl Model for AmTx {
+    ghost use Rattle.rlc_model.specs.Tx.{Tx};
+
+    ghost Value = { Tx };
+
+    ghost use Rattle.rlc_am_tx.specs.Transmitter.{tx_of, IsBoundedInside};
+
+    ghost view = { tx_of };
+
+    ghost invariant = { IsBoundedInside };
+}
+
+impl AmTx {
+    /// A transmitter that was given nothing, with its pollPDU, pollByte and maxRetxThreshold (TS 38.322 clause 7.4). A
+    /// pollPDU or a pollByte of 0 never causes a poll.
+    pub fn new(
+        alloc: Global,
+        size: SnSize,
+        poll_pdu: u32,
+        poll_byte: u32,
+        max_retx_threshold: u8,
+    ) -> Result<Self, Memory>
+        ensures { IfOk result (λ tx. tx ≡ empty_tx size poll_pdu poll_byte max_retx_threshold) }
+    {
+        Ok(AmTx {
+            alloc,
+            size,
+            max_retx_threshold,
+            buffer: TxBuffer::new(alloc),
+            polling: Polling::new(poll_pdu, poll_byte),
+            changes: 0,
+        })
+    }
+
+    /// TX_Next: the number of the next SDU given (TS 38.322 clause 7.1).
+    pub fn next(&self) -> u64
+        ensures { result ≡ tx_next self.now }
+    {
+        self.buffer.next()
+    }
+
+    /// TX_Next_Ack: the lowest number that is not confirmed, or TX_Next (TS 38.322 clause 7.1).
+    pub fn next_ack(&self) -> u64
+        ensures { result ≡ tx_next_ack self.now }
+    {
+        self.buffer.next_ack()
+    }
+
+    /// How many SDUs are not confirmed.
+    pub fn unconfirmed(&self) -> u64
+        ensures { result ≡ unconfirmed self.now }
+    {
+        self.buffer.unconfirmed()
+    }
+
+    /// How many more SDUs the transmitting window takes: up to 2,048, or 131,072 with 18-bit sequence numbers (TS
+    /// 38.322 clause 7.2).
+    pub fn room(&self) -> u64
+        ensures { result ≡ room self.now }
+    {
+        room_of(&self.buffer, self.size)
+    }
+
+    /// Whether t-PollRetransmit runs (TS 38.322 clause 7.3).
+    pub fn poll_running(&self) -> bool
+        ensures { result ≡ self.now.poll_retransmit_runs }
+    {
+        self.polling.poll_retransmit_runs
+    }
+
+    /// Whether the tag of an SDU that is not confirmed has this local identity.
+    pub fn bears(&self, ue: LocalId) -> bool
+        ensures { MatchBool result (Bears self.now ue) (Bears self.now ue → ⊥) }
+    {
+        self.buffer.bears(ue)
+    }
+
+    /// Takes an SDU of 1 to 9,005 bytes, with a tag that comes back once it is confirmed, and answers its number (TS
+    /// 38.322 clause 5.2.3.1.1). It needs TX_Next below 2^62.
+    ///
+    /// `NoRoom` comes exactly where `room` is 0. After an `Err` the transmitter is as it was.
+    pub fn give(&mut self, tag: Tag, sdu: Bytes) -> Result<u64, GiveFault>
+        requires some { 0 < length sdu }
+        requires long { length sdu ≤ 9005 }
+        requires small { tx_next self.old < 2 ^ 62 }
+        ensures ok { IfOk result (λ number. Gives self.old tag sdu number self.new) }
+        ensures err { OnErr result (self.new ≡ self.old) }
+        ensures fault { IfErr result (GivesBack self.old sdu) }
+    {
+        if self.room() == 0 {
+            return Err(GiveFault::NoRoom(sdu));
+        }
+        let number = self.buffer.next();
+        if let Err(sdu) = self.buffer.push(tag, sdu) {
+            return Err(GiveFault::Memory(sdu));
+        }
+        Ok(number)
+    }
+
+    /// Sends one PDU of at most `n` octets (TS 38.322 clauses 5.2.3.1.1, 5.3.2 and 5.3.3.2).
+    ///
+    /// `Idle` comes exactly where no byte waits for retransmission or for its first transmission, and `Small` exactly
+    /// where the header of the PDU that is next and one byte have more than `n` octets. After an `Err` the transmitter
+    /// is as it was.
+    pub fn grant(&mut self, n: u32) -> Result<TxGrant, Memory>
+        ensures ok { IfOk result (λ answer. Grants self.old n answer self.new) }
+        ensures err { OnErr result (self.new ≡ self.old) }
+    {
+        let Some(piece) = self.buffer.next_piece() else {
+            return Ok(TxGrant::Idle);
+        };
+        let header = header_len(self.size, piece.from);
+        if n <= header {
+            return Ok(TxGrant::Small { need: header + 1 });
+        }
+        let end = piece.to.min(piece.from + (n - header) as usize);
+        let bytes = self.send(&piece, end)?;
+        Ok(TxGrant::Sent {
+            number: piece.number,
+            bytes,
+        })
+    }
+
+    /// t-PollRetransmit runs out (TS 38.322 clause 5.3.3.4). It takes no memory.
+    ///
+    /// `Stopped` comes exactly where the timer isn't running, and `Marked` where the RETX_COUNT of an SDU came to
+    /// maxRetxThreshold.
+    pub fn expire_poll(&mut self) -> Expired
+        ensures { ExpiresPollAs self.old result self.new }
+    {
+        if !self.polling.poll_retransmit_runs {
+            return Expired::Stopped;
+        }
+        self.polling.expire();
+        let Some(number) = self.buffer.retransmit_lowest(self.max_retx_threshold) else {
+            return Expired::Done;
+        };
+        Expired::Marked(number)
+    }
+
+    // Sends the bytes of a piece before `end`, and answers the PDU. After an `Err` nothing changed.
+    fn send(&mut self, piece: &Piece, end: usize) -> Result<Bytes, Memory>
+        requires next { IsNextPiece self.old.kept piece.now }
+        requires inside { IsInside self.old.kept piece.now }
+        requires some { piece.now.from < end }
+        requires within { end ≤ piece.now.to }
+        ensures ok { IfOk result (λ bytes. SendsPiece self.old piece.now end bytes self.new) }
+        ensures err { OnErr result (self.new ≡ self.old) }
+    {
+        let Some(changes) = self.changes.checked_add(1) else {
+            return Err(Memory);
+        };
+        let bytes = self.encode(piece, end)?;
+        let fresh = end.saturating_sub(self.buffer.sent_len(piece.number));
+        self.buffer.mark_sent(piece, end)?;
+        self.changes = changes;
+        if is_polled(&mut self.buffer, &self.polling, self.size, fresh) {
+            self.polling.begin(self.buffer.sent_count() - 1);
+            return Ok(with_poll(bytes));
+        }
+        self.polling.count(fresh);
+        Ok(bytes)
+    }
+
+    // The PDU of a piece up to `end`, without a poll.
+    fn encode(&self, piece: &Piece, end: usize) -> Result<Bytes, Memory>
+        requires inside { IsInside self.now.kept piece.now }
+        requires some { piece.now.from < end }
+        requires within { end ≤ piece.now.to }
+        ensures { IfOk result (λ bytes. bytes ≡ bytes_of self.now.size (piece_of self.now piece.now end false)) }
+    {
+        let modulus = match self.size {
+            SnSize::S12 => 4096,
+            SnSize::S18 => 262_144,
+        };
+        let pdu = AmdView {
+            sn: (piece.number % modulus) as u32,
+            poll: false,
+            si: si_of(piece.from == 0, end == self.buffer.sdu_len(piece.number)),
+            so: piece.from as u16,
+            body: self.buffer.bytes(piece.number, piece.from, end),
+        };
+        let bytes = encode_amd(self.alloc, self.size, &pdu)?;
+        Ok(bytes)
+    }
+}
+
+// How many more SDUs the transmitting window takes.
+fn room_of(buffer: &TxBuffer, size: SnSize) -> u64
+    requires { length buffer.now ≤ prefix_len is_none buffer.now + window size }
+    ensures { result ≡ prefix_len is_none buffer.now + window size - length buffer.now }
+{
+    let window = match size {
+        SnSize::S12 => 2048,
+        SnSize::S18 => 131_072,
+    };
+    buffer.next_ack() + window - buffer.next()
+}
+
+// Whether the PDU that was just sent, of which so many bytes were unsent, has a poll (TS 38.322 clause 5.3.3.2).
+fn is_polled(buffer: &mut TxBuffer, polling: &Polling, size: SnSize, fresh: usize) -> bool
+    requires window { length buffer.old ≤ prefix_len is_none buffer.old + window size }
+    requires pdus { polling.now.pdu_without_poll + 1 < 2 ^ 64 }
+    requires bytes { polling.now.byte_without_poll + fresh < 2 ^ 128 }
+    ensures same { buffer.new ≡ buffer.old }
+    ensures polls { MatchBool result (HasPoll polling.now buffer.old size fresh) (HasPoll polling.now buffer.old size fresh → ⊥) }
+{
+    if polling.is_due(fresh) {
+        return true;
+    }
+    if buffer.unsent_waits() {
+        return false;
+    }
+    room_of(buffer, size) == 0 || !buffer.pending_waits()
+}
+
+// The SI of a segment, by whether it has the first and whether it has the last byte of its SDU (TS 38.322 clause
+// 6.2.3.4).
+fn si_of(first: bool, last: bool) -> Si
+    ensures { result ≡ si_of first last }
+{
+    match (first, last) {
+        (true, true) => Si::Whole,
+        (true, false) => Si::First,
+        (false, true) => Si::Last,
+        (false, false) => Si::Middle,
+    }
+}
+
+// How many octets the header of a PDU has that begins at this place of its SDU (TS 38.322 clause 6.2.2.4).
+fn header_len(size: SnSize, from: usize) -> u32
+    ensures { result ≡ header size from }
+{
+    let with_sn = match size {
+        SnSize::S12 => 2,
+        SnSize::S18 => 3,
+    };
+    if from > 0 { with_sn + 2 } else { with_sn }
+}
+
+// The same PDU with a poll: P is bit 6 of the first octet (TS 38.322 clause 6.2.3.7).
+fn with_poll(bytes: Bytes) -> Bytes
+    requires some { 0 < length bytes }
+    requires unset { slice_index bytes 0 < 192 }
+    ensures { AddsPoll bytes result }
+{
+    let mut octets = bytes.into_vec();
+    octets[0] += 0x40;
+    Bytes::from_vec(octets)
+}

@@ -1,0 +1,15 @@
+//! The transmitting side of RLC in acknowledged mode (TS 38.322 clauses 5.2.3.1, 5.3.2 and 5.3.3).
+#![tactic(auto)]
+
+mod am_tx;
+mod buffer;
+mod flags;
+mod pieces;
+mod polling;
+mod slot;
+
+pub use am_tx::{AmTx, GiveFault};
+pub use rlc_model::{StatusHeard, TagList, TxGrant};
+
+#[cfg(test)]
+mod tests;
