@@ -1,5 +1,6 @@
 -- The book of a run: what was submitted and accepted, and what was handed up, for each key. It knows no PDU.
 use Rattle.std.specs.Prelude.{◌≡◌, ℕ, Bool, true, false, ◌&&◌, ◌==◌, List, [], ◌∷◌, ◌++◌, length, take, if◌then◌else◌}
+use Rattle.link_base.specs.declared.names.SnSize.{SnSize}
 use Rattle.link_base.specs.declared.names.Way.{Way}
 use Rattle.link_base.specs.declared.names.Way.TheVariants.{Ul, Dl}
 use Rattle.link_base.specs.declared.names.Key.{Key}
@@ -42,7 +43,7 @@ handed key [] = []
 handed key (e ∷ h) = handed key h ++ ups key e.events
 
 -- what was handed up of a key are the SDUs that were submitted and accepted, in order from the first,
--- as many as the least COUNT that no delivered PDU bears
-pub record HandsUp (key : Key) (h : List Entry) : Type 0 where
+-- as many as the least COUNT that no delivered PDUs complete
+pub record HandsUp (size : SnSize) (key : Key) (h : List Entry) : Type 0 where
   pub in_order : handed key h ≡ take (length (handed key h)) (submitted key h)
-  pub exact : IsLeastUnheard key h (length (handed key h))
+  pub exact : IsLeastUnheard size key h (length (handed key h))

@@ -1,12 +1,13 @@
--- What is heard, from the bytes of all delivered PDUs, in whatever order they came.
-use Rattle.std.specs.Prelude.{◌≡◌, ◌⊎◌, ℕ, ◌<◌, true, false, List, [], ◌∷◌, Some}
+-- What is heard, from the bytes of all delivered PDUs, in whatever order they came: no window, no store.
+use Rattle.std.specs.Prelude.{◌≡◌, ◌⊎◌, ℕ, ◌<◌, true, false, List, [], ◌∷◌, length, slice_index, Some}
+use Rattle.link_base.specs.declared.names.SnSize.{SnSize}
 use Rattle.link_base.specs.declared.names.SnSize.TheVariants.{S12}
 use Rattle.link_base.specs.declared.names.PortName.{PortName}
 use Rattle.link_base.specs.declared.names.PortName.TheVariants.{Direct}
 use Rattle.link_base.specs.declared.names.Way.{Way}
 use Rattle.link_base.specs.declared.names.Key.{Key}
 use Rattle.rlc_pdu.specs.Amd.{Amd, IsAmd}
-use Rattle.rlc_pdu.specs.declared.amd.Si.TheVariants.{Whole}
+use Rattle.rlc_model.specs.Pdu.{end_of, is_end, byte_at}
 use Rattle.pdcp_pdu.specs.Pdcp.{IsPdcp}
 use Rattle.pdcp_pdu.specs.Pdcp.Pdcp.{Sdu}
 use Rattle.script_text.specs.declared.line.Line.{Line}
@@ -15,22 +16,14 @@ use Rattle.script_text.specs.declared.reply.Reply.{Reply}
 use Rattle.script_text.specs.History.{Entry}
 use Rattle.chain_model.specs.Air.{AirEntry, air_entry, is_delivery}
 
--- The bytes are an AMD PDU with a whole RLC SDU (TS 38.322 clause 6.2.2.4), which is a PDCP data PDU with this SDU
--- (TS 38.323 clause 6.2.2). Its COUNT is its SN, since a bearer has at most 2,048 SDUs as long as none is confirmed.
-pub record Bears (bytes : List ℕ) (count : ℕ) (sdu : List ℕ) : Type 0 where
-  pub amd : Amd
-  pub is_amd : IsAmd S12 amd bytes
-  pub whole : amd.si ≡ Whole
-  pub pdcp : IsPdcp S12 (Sdu count sdu) amd.body
-
--- the entry has this ticket's PDU heard
+-- the line and its reply have this ticket's PDU heard
 abbrev pub delivers : Line → Reply → ℕ → Type 0
 delivers (Deliver ticket) reply t = (is_delivery reply ≡ true) × (ticket ≡ t)
 delivers (Repeat ticket) reply t = (is_delivery reply ≡ true) × (ticket ≡ t)
 delivers line reply t = ⊥
 
--- behind a history the entry delivers, over a port and in a way, a data PDU with these bytes
-pub record Delivers (h : List Entry) (e : Entry) (port : PortName) (way : Way) (bytes : List ℕ) : Type 0 where
+-- behind a history the entry delivers, over a port and in a way, a data PDU of this number with these fields
+pub record Delivers (size : SnSize) (port : PortName) (way : Way) (h : List Entry) (e : Entry) (number : ℕ) (fields : Amd) : Type 0 where
   pub ticket : ℕ
   pub pdu : AirEntry
   pub heard : delivers e.line e.reply ticket
@@ -38,22 +31,37 @@ pub record Delivers (h : List Entry) (e : Entry) (port : PortName) (way : Way) (
   pub its_port : pdu.port ≡ port
   pub its_way : pdu.way ≡ way
   pub is_data : pdu.status ≡ false
-  pub its_bytes : pdu.bytes ≡ bytes
+  pub its_number : pdu.number ≡ number
+  pub reads : IsAmd size fields pdu.bytes
 
--- some entry has delivered a data PDU with these bytes
-abbrev pub Delivered : List Entry → PortName → Way → List ℕ → Type 0
-Delivered [] port way bytes = ⊥
-Delivered (e ∷ h) port way bytes = Delivers h e port way bytes ⊎ Delivered h port way bytes
+-- some entry has delivered, over a port and in a way, a data PDU of this number with these fields
+abbrev pub Delivered : SnSize → PortName → Way → List Entry → ℕ → Amd → Type 0
+Delivered size port way [] number fields = ⊥
+Delivered size port way (e ∷ h) number fields = Delivers size port way h e number fields ⊎ Delivered size port way h number fields
 
--- of a key, a delivered PDU on its direct port bears this COUNT, and with it this SDU
-abbrev pub IsHeardAs : Key → List Entry → ℕ → List ℕ → Type 0
-IsHeardAs key h count sdu = (bytes : List ℕ) × Delivered h (Direct key.remote key.drb) key.way bytes × Bears bytes count sdu
+-- the delivered PDUs of a number have this byte for this place of the SDU
+abbrev pub HasByte : SnSize → PortName → Way → List Entry → ℕ → ℕ → ℕ → Type 0
+HasByte size port way h number place b = (fields : Amd) × Delivered size port way h number fields × (byte_at fields place ≡ Some b)
 
--- of a key, a delivered PDU bears this COUNT
-abbrev pub IsHeard : Key → List Entry → ℕ → Type 0
-IsHeard key h count = (sdu : List ℕ) × IsHeardAs key h count sdu
+-- a delivered whole SDU or last segment of a number ends at this length
+abbrev pub HasEnd : SnSize → PortName → Way → List Entry → ℕ → ℕ → Type 0
+HasEnd size port way h number long = (fields : Amd) × Delivered size port way h number fields × (is_end fields.si ≡ true) × (end_of fields ≡ long)
 
--- the least COUNT of a key that no delivered PDU bears
-pub record IsLeastUnheard (key : Key) (h : List Entry) (count : ℕ) : Type 0 where
-  pub below : (lower : ℕ) → lower < count → IsHeard key h lower
-  pub here : IsHeard key h count → ⊥
+-- the number is heard as this SDU: its end, and a byte for each of its places
+pub record HeardAt (size : SnSize) (port : PortName) (way : Way) (h : List Entry) (number : ℕ) (sdu : List ℕ) : Type 0 where
+  pub end : HasEnd size port way h number (length sdu)
+  pub bytes : (place : ℕ) → place < length sdu → HasByte size port way h number place (slice_index sdu place)
+
+-- of a key, a number is heard on its direct port as a PDCP data PDU with this COUNT and this SDU. The COUNT is the PDU's SN, since a
+-- bearer has at most 2,048 SDUs as long as none is confirmed (TS 38.323 clause 6.2.2)
+abbrev pub IsHeardAs : SnSize → Key → List Entry → ℕ → List ℕ → Type 0
+IsHeardAs size key h count sdu = (number : ℕ) × (pdu : List ℕ) × HeardAt size (Direct key.remote key.drb) key.way h number pdu × IsPdcp S12 (Sdu count sdu) pdu
+
+-- of a key, delivered PDUs complete the SDU of this COUNT
+abbrev pub IsHeard : SnSize → Key → List Entry → ℕ → Type 0
+IsHeard size key h count = (sdu : List ℕ) × IsHeardAs size key h count sdu
+
+-- the least COUNT of a key that no delivered PDUs complete
+pub record IsLeastUnheard (size : SnSize) (key : Key) (h : List Entry) (count : ℕ) : Type 0 where
+  pub below : (lower : ℕ) → lower < count → IsHeard size key h lower
+  pub here : IsHeard size key h count → ⊥

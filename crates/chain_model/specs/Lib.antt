@@ -1,6 +1,6 @@
 pub mod Air
 pub mod Heard
 pub mod Book
-pub mod Transmitter
-pub mod Answers
-pub mod Laws
+pub mod Chain
+pub mod Steps
+pub mod Worked

@@ -1,12 +1,7 @@
-// What holds of PDUs and the SDUs that they bear.
-ghost use Rattle.chain_model.specs.Laws.{BearsOne, WholeIsBorne};
+// A worked run of the definitions.
+ghost use Rattle.chain_model.specs.Worked.{HandsUpSegments};
 
-/// A law: a PDU bears at most one COUNT and one SDU.
-pub fn pdu_bears_one_sdu()
-    ensures { BearsOne }
-{}
-
-/// A law: the PDU that the transmitter makes of an SDU and its number bears them.
-pub fn whole_sdu_is_borne()
-    ensures { WholeIsBorne }
+/// A worked run: an SDU is sent in three segments, and handed up when they came last, first, middle.
+pub fn segments_are_handed_up()
+    ensures { HandsUpSegments }
 {}

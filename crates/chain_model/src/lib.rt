@@ -1,7 +1,8 @@
-//! What a run of the chain has done, told by the lines of its script, their events and their replies alone: what is on the
-//! air, which PDUs were delivered and what is heard of them, what was submitted and handed up, and how each line is answered.
+//! What a run of a script does: which PDUs are sent and heard, what is handed up, and how each line is answered.
+//!
+//! The definitions stand in specs/.
 #![tactic(auto)]
 
 mod laws;
 
-pub use laws::{pdu_bears_one_sdu, whole_sdu_is_borne};
+pub use laws::segments_are_handed_up;

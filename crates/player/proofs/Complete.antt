@@ -15,10 +15,11 @@ use Rattle.script_text.specs.Splits.{HasNoLf, Splits, IsLong, IsTooLong}
 use Rattle.script_text.specs.Stages.{stage_after, is_running, is_ended}
 use Rattle.script_text.specs.History.{Entry, stage_of, Reads, Spelt, MayNotStand}
 use Rattle.script_text.proofs.OneLine.{one_line}
-use Rattle.chain_model.specs.Answers.{Lawful}
+use Rattle.chain_model.specs.Chain.{Chain}
+use Rattle.chain_model.specs.Steps.{LeadsTo}
 use Rattle.player.specs.declared.play.Ending.{Ending}
 use Rattle.player.specs.declared.play.Ending.TheVariants.{Done, Later, NoGo, TooLong}
-use Rattle.player.specs.Runs.{Stops, LeadsTo, ScriptsEnd}
+use Rattle.player.specs.Runs.{Stops, LeadsToStage, ScriptsEnd}
 
 -- a line is the front of the bytes that it splits off
 line_is : (bytes line after : List ℕ) → Splits bytes line after → take (length line) bytes ≡ line
@@ -86,7 +87,7 @@ reads_one input (t ∷ texts) rest (t' ∷ texts') rest' r r' many =
     (same, one.1)
 
 -- lines lead to one stage
-leads_one : (texts : List (List ℕ)) (s t : ScriptStage) → LeadsTo texts s → LeadsTo texts t → s ≡ t
+leads_one : (texts : List (List ℕ)) (s t : ScriptStage) → LeadsToStage texts s → LeadsToStage texts t → s ≡ t
 leads_one [] s t x y = x ∙ sym y
 leads_one (text ∷ texts) s t (inl x) (inl y) = leads_one texts s t x.1 y.1
 leads_one (text ∷ texts) s t (inl x) (inr y) = absurd (false≢true (sym y.0 ∙ x.0))
@@ -103,15 +104,15 @@ some_is None is = absurd (false≢true is)
 some_is (Some s) is = refl
 
 -- the lines of a lawful history lead to its stage
-leads_of : (texts : List (List ℕ)) (h : List Entry) → Spelt texts h → Lawful h → LeadsTo texts (stage_of h)
-leads_of [] [] x l = refl
-leads_of [] (e ∷ h) x l = absurd x
-leads_of (text ∷ texts) [] x l = inl (x.0, leads_of texts [] x.1 l)
-leads_of (text ∷ texts) (e ∷ h) (inl x) l = inl (x.0, leads_of texts (e ∷ h) x.1 l)
-leads_of (text ∷ texts) (e ∷ h) (inr x) l = inr (x.0, e.line, stage_of h, leads_of texts h x.2 l.0, x.1, some_is _ l.1)
+leads_of : (texts : List (List ℕ)) (h : List Entry) (c : Chain) → Spelt texts h → LeadsTo h c → LeadsToStage texts (stage_of h)
+leads_of [] [] c x l = refl
+leads_of [] (e ∷ h) c x l = absurd x
+leads_of (text ∷ texts) [] c x l = inl (x.0, leads_of texts [] c x.1 l)
+leads_of (text ∷ texts) (e ∷ h) c (inl x) l = inl (x.0, leads_of texts (e ∷ h) c x.1 l)
+leads_of (text ∷ texts) (e ∷ h) c (inr x) l = inr (x.0, e.line, stage_of h, leads_of texts h l.0 x.2 l.1, x.1, some_is _ l.2)
 
 -- lines without their newest lead to a stage too
-older_lead : (text : List ℕ) (texts : List (List ℕ)) (s : ScriptStage) → LeadsTo (text ∷ texts) s → (before : ScriptStage) × LeadsTo texts before
+older_lead : (text : List ℕ) (texts : List (List ℕ)) (s : ScriptStage) → LeadsToStage (text ∷ texts) s → (before : ScriptStage) × LeadsToStage texts before
 older_lead text texts s (inl x) = (s, x.1)
 older_lead text texts s (inr x) = (x.2, x.3)
 
@@ -124,7 +125,7 @@ ended_none (Ended table) t (Version n) is e = absurd (cc)
 ended_none (Ended table) t line is e = absurd (cc)
 
 -- behind an ended stage the stage stays ended
-stays_ended : (text : List ℕ) (texts : List (List ℕ)) (s : ScriptStage) → ((before : ScriptStage) → LeadsTo texts before → is_ended before ≡ true) → LeadsTo (text ∷ texts) s → is_ended s ≡ true
+stays_ended : (text : List ℕ) (texts : List (List ℕ)) (s : ScriptStage) → ((before : ScriptStage) → LeadsToStage texts before → is_ended before ≡ true) → LeadsToStage (text ∷ texts) s → is_ended s ≡ true
 stays_ended text texts s ended (inl x) = ended s x.1
 stays_ended text texts s ended (inr x) = absurd (ended_none x.2 s x.1 (ended x.2 x.3) x.5)
 
@@ -138,7 +139,7 @@ ended_before rest text after s (inl ended) splits = ended
 ended_before rest text after s (inr over) splits = absurd (splits_none rest text after over.1 splits)
 
 -- more lines than a script has lead to an ended stage
-past_end : (input : List ℕ) (texts : List (List ℕ)) (rest : List ℕ) (s : ScriptStage) (whole : List (List ℕ)) (end : List ℕ) (last : ScriptStage) → Reads input texts rest → Reads input whole end → LeadsTo texts s → LeadsTo whole last
+past_end : (input : List ℕ) (texts : List (List ℕ)) (rest : List ℕ) (s : ScriptStage) (whole : List (List ℕ)) (end : List ℕ) (last : ScriptStage) → Reads input texts rest → Reads input whole end → LeadsToStage texts s → LeadsToStage whole last
     → IsEnd last end → length whole < length texts → is_ended s ≡ true
 past_end input [] rest s whole end last r w l m is more = absurd (omega arith)
 past_end input (text ∷ texts) rest s whole end last r w l m is more = stays_ended text texts s (λ before x.
@@ -146,7 +147,7 @@ past_end input (text ∷ texts) rest s whole end last r w l m is more = stays_en
       | inl many ↦
           let same = reads_one input texts r.0 whole end r.1 w many in
           let ended = ended_before r.0 text rest last (subst (λ (b : List ℕ). IsEnd last b) (sym same.1) is) r.2 in
-          ap is_ended (leads_one whole before last (subst (λ (t : List (List ℕ)). LeadsTo t before) same.0 x) m) ∙ ended
+          ap is_ended (leads_one whole before last (subst (λ (t : List (List ℕ)). LeadsToStage t before) same.0 x) m) ∙ ended
       | inr ne ↦ past_end input texts r.0 before whole end last r.1 w x m is (omega arith)
     ]) l
 
@@ -158,10 +159,10 @@ record GoesOn (input : List ℕ) (texts : List (List ℕ)) (rest : List ℕ) : T
   pub splits : Splits rest text after
   pub short : length text ≤ 65536
   pub limit : length input ≤ 16777216 + length after
-  pub leads : LeadsTo (text ∷ texts) stage
+  pub leads : LeadsToStage (text ∷ texts) stage
 
 -- fewer lines than a script has go on in it
-goes_on : (input : List ℕ) (texts : List (List ℕ)) (rest : List ℕ) (whole : List (List ℕ)) (end : List ℕ) (last : ScriptStage) → Reads input texts rest → Reads input whole end → LeadsTo whole last → length texts < length whole
+goes_on : (input : List ℕ) (texts : List (List ℕ)) (rest : List ℕ) (whole : List (List ℕ)) (end : List ℕ) (last : ScriptStage) → Reads input texts rest → Reads input whole end → LeadsToStage whole last → length texts < length whole
     → GoesOn input texts rest
 goes_on input texts rest [] end last r w l less = absurd (omega arith)
 goes_on input texts rest (text ∷ whole) end last r w l less = elim (cases_eq (length texts) (length whole)) [
@@ -174,7 +175,7 @@ goes_on input texts rest (text ∷ whole) end last r w l less = elim (cases_eq (
         splits = subst (λ (b : List ℕ). Splits b text end) (sym same.1) w.2;
         short = w.3;
         limit = w.4;
-        leads = subst (λ (t : List (List ℕ)). LeadsTo (text ∷ t) last) (sym same.0) l;
+        leads = subst (λ (t : List (List ℕ)). LeadsToStage (text ∷ t) last) (sym same.0) l;
       }
   | inr ne ↦
       let older = older_lead text whole last l in
@@ -188,7 +189,7 @@ long_stops used rest text after splits short long =
     omega arith
 
 -- a line that leads on may stand
-next_stands : (texts : List (List ℕ)) (text : List ℕ) (s t : ScriptStage) → LeadsTo texts s → is_skipped text ≡ false → LeadsTo (text ∷ texts) t → MayNotStand text s → ⊥
+next_stands : (texts : List (List ℕ)) (text : List ℕ) (s t : ScriptStage) → LeadsToStage texts s → is_skipped text ≡ false → LeadsToStage (text ∷ texts) t → MayNotStand text s → ⊥
 next_stands texts text s t l keep (inl x) none = false≢true (sym keep ∙ x.0)
 next_stands texts text s t l keep (inr x) none =
     let same = leads_one texts s x.2 l x.3 in
@@ -206,7 +207,7 @@ too_long_stops input rest text after used place splits limit long =
     ]
 
 -- a run doesn't stop where the script goes on
-going_on_done : (input : List ℕ) (texts : List (List ℕ)) (h : List Entry) (used : ℕ) (rest : List ℕ) (ending : Ending) (out : List ℕ) → used + length rest ≡ length input → LeadsTo texts (stage_of h) → GoesOn input texts rest
+going_on_done : (input : List ℕ) (texts : List (List ℕ)) (h : List Entry) (used : ℕ) (rest : List ℕ) (ending : Ending) (out : List ℕ) → used + length rest ≡ length input → LeadsToStage texts (stage_of h) → GoesOn input texts rest
     → Stops texts h used rest ending out → ending ≡ Done
 going_on_done input texts h used rest Done out place l g x = refl
 going_on_done input texts h used rest Later out place l g x = elim x.1 [
@@ -220,12 +221,12 @@ going_on_done input texts h used rest NoGo out place l g x = absurd (splits_none
 going_on_done input texts h used rest TooLong out place l g x = absurd (too_long_stops input rest g.text g.after used place g.splits g.limit x.1)
 
 -- the last of the lines that lead behind go ends in time
-ends_in_time : (input : List ℕ) (texts : List (List ℕ)) (rest : List ℕ) (s : ScriptStage) → Reads input texts rest → LeadsTo texts s → is_running s ≡ true → length input ≤ 16777216 + length rest
+ends_in_time : (input : List ℕ) (texts : List (List ℕ)) (rest : List ℕ) (s : ScriptStage) → Reads input texts rest → LeadsToStage texts s → is_running s ≡ true → length input ≤ 16777216 + length rest
 ends_in_time input [] rest s r l is = absurd (false≢true (sym (ap is_running l) ∙ is))
 ends_in_time input (text ∷ texts) rest s r l is = r.4
 
 -- behind go, at the input's end, a run comes to its end
-over_stops : (input : List ℕ) (texts : List (List ℕ)) (h : List Entry) (used : ℕ) (rest : List ℕ) (ending : Ending) (out : List ℕ) → used + length rest ≡ length input → Reads input texts rest → LeadsTo texts (stage_of h)
+over_stops : (input : List ℕ) (texts : List (List ℕ)) (h : List Entry) (used : ℕ) (rest : List ℕ) (ending : Ending) (out : List ℕ) → used + length rest ≡ length input → Reads input texts rest → LeadsToStage texts (stage_of h)
     → is_running (stage_of h) ≡ true → rest ≡ [] → Stops texts h used rest ending out → ending ≡ Done
 over_stops input texts h used rest Done out place r l is none x = refl
 over_stops input texts h used rest Later out place r l is none x = elim x.1 [
@@ -247,13 +248,13 @@ ended_stops texts h used rest TooLong out is x = absurd (false≢true (sym x.0 �
 pub scripts_end : ScriptsEnd
 scripts_end input ending out run script =
     let h = run.history in
-    let leads : LeadsTo run.texts (stage_of h) = leads_of run.texts h run.spelt run.lawful in
+    let leads : LeadsToStage run.texts (stage_of h) = leads_of run.texts h run.chain run.spelt run.leads in
     elim (cases_lt (length run.texts) (length script.texts)) [
       | inl less ↦ going_on_done input run.texts h run.used run.rest ending out run.place leads (goes_on input run.texts run.rest script.texts script.rest script.stage run.reads script.reads script.leads less) run.stops
       | inr more ↦ elim (cases_eq (length run.texts) (length script.texts)) [
         | inl many ↦
             let same = reads_one input run.texts run.rest script.texts script.rest run.reads script.reads many in
-            let stage : script.stage ≡ stage_of h = leads_one script.texts script.stage (stage_of h) script.leads (subst (λ (t : List (List ℕ)). LeadsTo t (stage_of h)) same.0 leads) in
+            let stage : script.stage ≡ stage_of h = leads_one script.texts script.stage (stage_of h) script.leads (subst (λ (t : List (List ℕ)). LeadsToStage t (stage_of h)) same.0 leads) in
             elim script.ends [
               | inl ended ↦ ended_stops run.texts h run.used run.rest ending out (ap is_ended (sym stage) ∙ ended) run.stops
               | inr over ↦ over_stops input run.texts h run.used run.rest ending out run.place run.reads leads (ap is_running (sym stage) ∙ over.0) (same.1 ∙ over.1) run.stops

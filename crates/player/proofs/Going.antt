@@ -1,25 +1,29 @@
 -- A run that is under way, and how it ends.
 use Rattle.std.proofs.Common.{◌≡◌, ◌⊎◌, ℕ, ◌+◌, ◌-◌, ◌≤◌, codes, true, false, List, [], ◌∷◌, ◌++◌, length, take, refl, sym, ◌∙◌, ap, subst, arith, inl, inr, length-append, length-take-le, append_assoc}
+use Rattle.std.proofs.lemmas.Bool.{false≢true}
 use Rattle.link_base.specs.declared.names.Key.{Key}
 use Rattle.script_text.specs.declared.stage.BearerTable.{BearerTable}
+use Rattle.script_text.specs.declared.stage.BearerTable.TheVariants.{Empty, Remote as OneRemote, Bearer as OneBearer}
 use Rattle.script_text.specs.declared.stage.ScriptStage.{ScriptStage}
 use Rattle.script_text.specs.declared.stage.ScriptStage.TheVariants.{Start, Tables, Running, Ended}
 use Rattle.script_text.specs.Lines.{is_skipped}
 use Rattle.script_text.specs.Splits.{Splits, EndsInTime, IsLong, IsTooLong}
-use Rattle.script_text.specs.Stages.{table_of, is_running, is_ended}
+use Rattle.script_text.specs.Stages.{table_of, is_served, is_running, is_ended}
 use Rattle.script_text.specs.Texts.{totals_text, done_text, bad_text, too_long_text}
 use Rattle.script_text.specs.History.{Entry, trace, stage_of, Reads as ReadsLines, Spelt, MayNotStand}
-use Rattle.chain_model.specs.Heard.{IsLeastUnheard}
+use Rattle.chain_model.specs.Chain.{Chain, direct_size}
+use Rattle.chain_model.specs.Steps.{IsKey, LeadsTo}
+use Rattle.chain_law.specs.Fits.{Fits}
+use Rattle.chain_law.proofs.TellsSteps.{leads_table, leads_book}
+use Rattle.chain_law.proofs.HandsUp.{hands_up}
 use Rattle.chain_model.specs.Book.{submitted, handed, HandsUp}
 use Rattle.player.specs.declared.play.Ending.{Ending}
 use Rattle.player.specs.declared.play.Ending.TheVariants.{Done, Later, NoGo, TooLong}
 use Rattle.player.specs.declared.player_state.Player.{Player}
 use Rattle.player.specs.declared.player_state.Progress.{Progress}
 use Rattle.player.specs.declared.player_state.Progress.TheVariants.{Skipped, Carried, Bad}
-use Rattle.player.specs.Stands.{Stands, Suits}
 use Rattle.player.specs.Plays.{Plays, Reads}
-use Rattle.player.specs.Runs.{IsRun, Stops}
-use Rattle.player.proofs.Hearing.{suiting}
+use Rattle.player.specs.Runs.{IsRun, Stops, Totals}
 
 -- some lines were read and carried out, so many are counted, the rest is left, and their trace was written
 pub record IsGoing (input rest : List ℕ) (number : ℕ) (player : Player) (out : List ℕ) : Type 0 where
@@ -28,6 +32,7 @@ pub record IsGoing (input rest : List ℕ) (number : ℕ) (player : Player) (out
   pub reads : ReadsLines input texts rest
   pub spelt : Spelt texts history
   pub plays : Plays player history
+  pub fits : Fits player.session
   pub written : out ≡ trace history
   pub counted : number ≡ length texts + 1
   pub each_long : length texts + length rest ≤ length input
@@ -43,24 +48,14 @@ spelt_skip : (text : List ℕ) (texts : List (List ℕ)) (h : List Entry) → is
 spelt_skip text texts [] skip s = (skip, s)
 spelt_skip text texts (e ∷ h) skip s = inl (skip, s)
 
--- what a session stands for is handed up in order, and exactly as far as it was heard
-hands_up : (key : Key) (sdus : List (List ℕ)) (air waiting : _) (up without_poll : ℕ) (h : List Entry) → Stands key sdus air waiting up without_poll h → HandsUp key h
-hands_up key sdus air waiting up without_poll h s =
-    let count : length (handed key h) ≡ up = ap length s.handed_are ∙ length-take-le up sdus s.within in
-    record {
-      in_order = s.handed_are ∙ (ap (λ (n : ℕ). take n sdus) (sym count) ∙ ap (λ (l : List (List ℕ)). take (length (handed key h)) l) s.sdus_are);
-      exact = subst (λ (n : ℕ). IsLeastUnheard key h n) (sym count) (record { below = s.went_up; here = s.lacks up (omega arith) s.next });
-    }
-
-plays_hand_up : (p : Player) (h : List Entry) → Plays p h → (key : Key) → Suits (table_of (stage_of h)) key → HandsUp key h
-plays_hand_up p h x key suits =
-    let own : Suits p.session.table key = subst (λ (t : BearerTable). Suits t key) (sym (p.opened ∙ ap table_of x.stage)) suits in
-    hands_up key p.session.sdus _ _ _ _ h (x.session key own)
+-- behind the lines of a history each key's SDUs were handed up as far as they are heard
+leads_hand_up : (h : List Entry) (c : Chain) → LeadsTo h c → (key : Key) → HandsUp (direct_size (table_of (stage_of h))) key h
+leads_hand_up h c l key = subst (λ (t : BearerTable). HandsUp (direct_size t) key h) (leads_table h c l) (hands_up h c l key)
 
 pub going_on : (input rest text after : List ℕ) (number : ℕ) (p p' : Player) (out out' : List ℕ) (progress : Progress) (g : IsGoing input rest number p out)
-    → Splits rest text after → EndsInTime (length input - length rest) rest text after → Reads text g.history progress p' out' → (progress ≡ Skipped) ⊎ (progress ≡ Carried)
+    → Splits rest text after → EndsInTime (length input - length rest) rest text after → Reads text g.history progress p' out' → Fits p'.session → (progress ≡ Skipped) ⊎ (progress ≡ Carried)
     → IsGoing input after (number + 1) p' out'
-going_on input rest text after number p p' out out' Skipped g splits time step on =
+going_on input rest text after number p p' out out' Skipped g splits time step fits on =
     let less = splits_shorter rest text after splits in
     let limit : length input ≤ 16777216 + length after = omega (arith, time.within, g.each_long) in
     record {
@@ -69,12 +64,13 @@ going_on input rest text after number p p' out out' Skipped g splits time step o
       reads = (rest, g.reads, splits, time.short, limit);
       spelt = spelt_skip text g.texts g.history step.0 g.spelt;
       plays = step.1;
+      fits = fits;
       written = step.2;
       counted = omega (arith, g.counted);
       each_long = omega (arith, g.each_long);
       in_limit = limit;
     }
-going_on input rest text after number p p' out out' Carried g splits time step on =
+going_on input rest text after number p p' out out' Carried g splits time step fits on =
     let less = splits_shorter rest text after splits in
     let limit : length input ≤ 16777216 + length after = omega (arith, time.within, g.each_long) in
     record {
@@ -83,12 +79,13 @@ going_on input rest text after number p p' out out' Carried g splits time step o
       reads = (rest, g.reads, splits, time.short, limit);
       spelt = inr (step.0, step.2, g.spelt);
       plays = step.3;
+      fits = fits;
       written = step.4;
       counted = omega (arith, g.counted);
       each_long = omega (arith, g.each_long);
       in_limit = limit;
     }
-going_on input rest text after number p p' out out' Bad g splits time step on = elim on [ inl e ↦ absurd (cc) | inr e ↦ absurd (cc) ]
+going_on input rest text after number p p' out out' Bad g splits time step fits on = elim on [ inl e ↦ absurd (cc) | inr e ↦ absurd (cc) ]
 
 -- a run that stops here
 pub run_stops : (input rest : List ℕ) (number : ℕ) (p : Player) (out out' : List ℕ) (ending : Ending) (g : IsGoing input rest number p out)
@@ -102,8 +99,9 @@ run_stops input rest number p out out' ending g stops =
       place = omega (arith, g.each_long);
       reads = g.reads;
       spelt = g.spelt;
-      lawful = g.plays.lawful;
-      hands_up = plays_hand_up p g.history g.plays;
+      chain = p.session;
+      leads = g.plays.leads;
+      hands_up = leads_hand_up g.history p.session g.plays.leads;
       stops = stops;
     }
 
@@ -119,26 +117,32 @@ not_ended (Tables t) h = refl
 not_ended (Running t) h = refl
 not_ended (Ended t) h = absurd (h t refl)
 
+no_totals : (t : BearerTable) (m n : ℕ) → is_served t ≡ false → totals_text t m n ≡ []
+no_totals Empty m n none = refl
+no_totals (OneRemote r) m n none = refl
+no_totals (OneBearer r d size) m n none = absurd (false≢true (sym none))
+
 -- what is written at the end of a run
 pub run_done : (input rest : List ℕ) (number : ℕ) (p : Player) (out out' : List ℕ) (ending : Ending) (g : IsGoing input rest number p out)
     → (is_ended p.stage ≡ true) ⊎ ((is_running p.stage ≡ true) × (rest ≡ []))
-    → (ending ≡ Done) × (out' ≡ out ++ totals_text (table_of p.stage) (length p.session.sdus) p.session.receiver.handed ++ done_text) → IsRun input ending out'
+    → (ending ≡ Done) × (out' ≡ out ++ totals_text (table_of p.stage) (length p.session.accepted) p.session.rx_deliv ++ done_text) → IsRun input ending out'
 run_done input rest number p out out' ending g why said =
     let h = g.history in
-    let key = suiting p.session.table in
-    let s = g.plays.session key.0 key.1 in
-    let own : Suits (table_of (stage_of h)) key.0 = subst (λ (t : BearerTable). Suits t key.0) (p.opened ∙ ap table_of g.plays.stage) key.1 in
-    let last : List ℕ = totals_text (table_of p.stage) (length p.session.sdus) p.session.receiver.handed ++ done_text in
-    let count : p.session.receiver.handed ≡ length (handed key.0 h) = sym (ap length s.handed_are ∙ length-take-le p.session.receiver.handed p.session.sdus s.within) in
-    let is : last ≡ totals_text (table_of (stage_of h)) (length (submitted key.0 h)) (length (handed key.0 h)) ++ done_text =
-    ap (λ (t : ScriptStage). totals_text (table_of t) (length p.session.sdus) p.session.receiver.handed ++ done_text) g.plays.stage
-    ∙ (ap (λ (l : List (List ℕ)). totals_text (table_of (stage_of h)) (length l) p.session.receiver.handed ++ done_text) s.sdus_are
-    ∙ ap (λ (n : ℕ). totals_text (table_of (stage_of h)) (length (submitted key.0 h)) n ++ done_text) count) in
-    let text : out' ≡ trace h ++ last = said.1 ∙ (append_assoc out _ done_text ∙ ap (λ (l : List ℕ). l ++ last) g.written) in
+    let c : Chain = p.session in
+    let last : List ℕ = totals_text (table_of (stage_of h)) (length c.accepted) c.rx_deliv ++ done_text in
+    let totals : Totals h last =
+    record {
+      bearer = λ key own.
+          let book = leads_book h c g.plays.leads key (subst (λ (t : BearerTable). IsKey t key) (sym (leads_table h c g.plays.leads)) own) in
+          ap (λ (n : ℕ). totals_text (table_of (stage_of h)) n c.rx_deliv ++ done_text) (ap length (sym book.0)) ∙ ap (λ (n : ℕ). totals_text (table_of (stage_of h)) (length (submitted key h)) n ++ done_text) (sym book.1);
+      none = λ none. ap (λ (l : List ℕ). l ++ done_text) (no_totals (table_of (stage_of h)) (length c.accepted) c.rx_deliv none);
+    } in
+    let is : totals_text (table_of p.stage) (length c.accepted) c.rx_deliv ++ done_text ≡ last = ap (λ (t : ScriptStage). totals_text (table_of t) (length c.accepted) c.rx_deliv ++ done_text) g.plays.stage in
+    let text : out' ≡ trace h ++ last = said.1 ∙ (append_assoc out _ done_text ∙ (ap (λ (l : List ℕ). out ++ l) is ∙ ap (λ (l : List ℕ). l ++ last) g.written)) in
     let why' : (is_ended (stage_of h) ≡ true) ⊎ ((is_running (stage_of h) ≡ true) × (rest ≡ [])) =
     subst (λ (t : ScriptStage). (is_ended t ≡ true) ⊎ ((is_running t ≡ true) × (rest ≡ []))) g.plays.stage why in
     subst (λ (e : Ending). IsRun input e out') (sym said.0)
-    (run_stops input rest number p out out' Done g (why', last, record { key = key.0; its_key = own; is = is }, text))
+    (run_stops input rest number p out out' Done g (why', last, totals, text))
 
 -- what is written where a run stops at a bad line
 module _ (input rest : List ℕ) (number : ℕ) (p : Player) (out out' : List ℕ) (g : IsGoing input rest number p out) (going : is_ended p.stage ≡ false) where

@@ -1,12 +1,6 @@
-pub mod Bearing
-pub mod Carrying
-pub mod Complete
-pub mod Delivering
-pub mod Going
-pub mod Granting
-pub mod Hearing
-pub mod Quiet
 pub mod Receiving
-pub mod Replies
-pub mod Sending
-pub mod Submitting
+pub mod Passing
+pub mod Hearing
+pub mod Carrying
+pub mod Going
+pub mod Complete

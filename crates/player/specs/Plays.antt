@@ -5,15 +5,14 @@ use Rattle.player.specs.declared.player_state.Progress.{Progress}
 use Rattle.player.specs.declared.player_state.Progress.TheVariants.{Skipped, Carried, Bad}
 use Rattle.script_text.specs.Words.{words_of}
 use Rattle.script_text.specs.Lines.{is_skipped, Spells}
+use Rattle.script_text.specs.Stages.{table_of}
 use Rattle.script_text.specs.History.{Entry, trace, stage_of, MayNotStand}
-use Rattle.chain_model.specs.Answers.{Lawful}
-use Rattle.player.specs.Stands.{StandsFor}
+use Rattle.chain_model.specs.Steps.{LeadsTo}
 
--- a player stands for a history that is lawful
+-- the lines of a history lead to a player
 pub record Plays (p : Player) (h : List Entry) : Type 0 where
-  pub session : StandsFor p.session h
+  pub leads : LeadsTo h p.session
   pub stage : p.stage ≡ stage_of h
-  pub lawful : Lawful h
 
 -- from a history and its trace, a line's text leads to this player and this text
 abbrev pub Reads : List ℕ → List Entry → Progress → Player → List ℕ → Type 0

@@ -7,24 +7,23 @@ use Rattle.script_text.specs.declared.stage.ScriptStage.TheVariants.{Start}
 use Rattle.script_text.specs.Words.{words_of}
 use Rattle.script_text.specs.Lines.{is_skipped, Spells}
 use Rattle.script_text.specs.Splits.{Splits, IsLong, IsTooLong}
-use Rattle.script_text.specs.Stages.{stage_after, table_of, is_running, is_ended}
+use Rattle.script_text.specs.Stages.{stage_after, table_of, is_served, is_running, is_ended}
 use Rattle.script_text.specs.Texts.{totals_text, done_text, bad_text, too_long_text}
 use Rattle.script_text.specs.History.{Entry, trace, stage_of, Reads, Spelt, MayNotStand}
 use Rattle.chain_model.specs.Book.{submitted, handed, HandsUp}
-use Rattle.chain_model.specs.Answers.{Lawful}
+use Rattle.chain_model.specs.Chain.{Chain, direct_size}
+use Rattle.chain_model.specs.Steps.{IsKey, LeadsTo}
 use Rattle.player.specs.declared.play.Ending.{Ending}
 use Rattle.player.specs.declared.play.Ending.TheVariants.{Done, Later, NoGo, TooLong}
-use Rattle.player.specs.Stands.{Suits}
 
 -- the next line of the rest is this text, which isn't skipped and has at most 65,536 bytes
 abbrev pub NextIs : List ℕ → List ℕ → Type 0
 NextIs rest text = (after : List ℕ) × Splits rest text after × (length text ≤ 65536) × (is_skipped text ≡ false)
 
--- what a run writes behind its trace where it comes to its end: the totals of the bearer, and done
+-- what a run writes behind its trace where it comes to its end: the totals of the bearer, where there is one, and done
 pub record Totals (h : List Entry) (text : List ℕ) : Type 0 where
-  pub key : Key
-  pub its_key : Suits (table_of (stage_of h)) key
-  pub is : text ≡ totals_text (table_of (stage_of h)) (length (submitted key h)) (length (handed key h)) ++ done_text
+  pub bearer : (key : Key) → IsKey (table_of (stage_of h)) key → text ≡ totals_text (table_of (stage_of h)) (length (submitted key h)) (length (handed key h)) ++ done_text
+  pub none : is_served (table_of (stage_of h)) ≡ false → text ≡ done_text
 
 -- why a run stopped behind these lines, of which the newest stands first, where this rest of the input was left, and what was written
 abbrev pub Stops : List (List ℕ) → List Entry → ℕ → List ℕ → Ending → List ℕ → Type 0
@@ -48,15 +47,16 @@ pub record IsRun (input : List ℕ) (ending : Ending) (out : List ℕ) : Type 0 
   pub place : used + length rest ≡ length input
   pub reads : Reads input texts rest
   pub spelt : Spelt texts history
-  pub lawful : Lawful history
-  pub hands_up : (key : Key) → Suits (table_of (stage_of history)) key → HandsUp key history
+  pub chain : Chain
+  pub leads : LeadsTo history chain
+  pub hands_up : (key : Key) → HandsUp (direct_size (table_of (stage_of history))) key history
   pub stops : Stops texts history used rest ending out
 
 -- lines lead from the start of a script to a stage, where each that isn't skipped stands where it may
-abbrev pub LeadsTo : List (List ℕ) → ScriptStage → Type 0
-LeadsTo [] stage = stage ≡ Start
-LeadsTo (text ∷ texts) stage = ((is_skipped text ≡ true) × LeadsTo texts stage)
-    ⊎ ((is_skipped text ≡ false) × (line : Line) × (before : ScriptStage) × LeadsTo texts before × Spells (words_of text) line × (stage_after before line ≡ Some stage))
+abbrev pub LeadsToStage : List (List ℕ) → ScriptStage → Type 0
+LeadsToStage [] stage = stage ≡ Start
+LeadsToStage (text ∷ texts) stage = ((is_skipped text ≡ true) × LeadsToStage texts stage)
+    ⊎ ((is_skipped text ≡ false) × (line : Line) × (before : ScriptStage) × LeadsToStage texts before × Spells (words_of text) line × (stage_after before line ≡ Some stage))
 
 -- the input is a script of the grammar, up to its end line or its end
 pub record IsScript (input : List ℕ) : Type 0 where
@@ -64,7 +64,7 @@ pub record IsScript (input : List ℕ) : Type 0 where
   pub rest : List ℕ
   pub stage : ScriptStage
   pub reads : Reads input texts rest
-  pub leads : LeadsTo texts stage
+  pub leads : LeadsToStage texts stage
   pub ends : (is_ended stage ≡ true) ⊎ ((is_running stage ≡ true) × (rest ≡ []))
 
 -- a run over a script of the grammar comes to its end

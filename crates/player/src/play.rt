@@ -29,7 +29,7 @@ pub fn play_script(alloc: Global, input: &[u8], out: &mut String) -> Result<Endi
     requires { string_bytes out.old ≡ [] }
     ensures { IfOk result (λ ending. IsRun input.now ending (string_bytes out.new)) }
 {
-    let mut player = Player::new(alloc);
+    let mut player = Player::new(alloc)?;
     let mut rest = input;
     let mut number: u64 = 1;
     loop {
@@ -69,11 +69,14 @@ pub fn play_script(alloc: Global, input: &[u8], out: &mut String) -> Result<Endi
 /// Adds the totals of a run that came to its end, and its last line.
 fn finish(player: &Player, out: &mut String) -> Result<Ending, Memory>
     ensures { IfOk result (λ ending. (ending ≡ Ending.Done) × (string_bytes out.new ≡ string_bytes out.old
-        ++ totals_text (table_of player.now.stage) (length player.now.session.sdus) player.now.session.receiver.handed ++ done_text)) }
+        ++ totals_text (table_of player.now.stage) (length player.now.session.accepted) player.now.session.rx_deliv ++ done_text)) }
 {
     let session = &player.session;
-    let submitted = session.sdus.len() as u64;
-    let handed = session.receiver.handed as u64;
-    push_totals_and_done(out, session.table, submitted, handed)?;
+    push_totals_and_done(
+        out,
+        player.stage.table(),
+        session.submitted(),
+        session.handed(),
+    )?;
     Ok(Ending::Done)
 }

@@ -5,10 +5,14 @@ use crate::{run, top};
 use link_base::{Bytes, Memory, NumberList, copy_bytes};
 use link_io::{MemSink, MemSource};
 use std::alloc::{AllocError, Global};
+use std::process::Abort;
 use std::test::Fail;
 
 // The tables of one bearer.
-const TABLES: &str = "relayscript 1\nremote 1\nbearer 1 1 12 12\ngo\n";
+pub(crate) const TABLES: &str = "relayscript 1\nremote 1\nbearer 1 1 12 12\ngo\n";
+
+// The same with 18-bit RLC sequence numbers.
+pub(crate) const WIDE_TABLES: &str = "relayscript 1\nremote 1\nbearer 1 1 12 18\ngo\n";
 
 const FIRST_DELIVERY: &str =
     "relayscript 1\nremote 1\nbearer 1 1 12 12\ngo\nsubmit 1 1 ul 6869\ngrant d1.1 ul 100\ndeliver 1\nend\n";
@@ -33,7 +37,7 @@ fn play(
 }
 
 /// Plays a script with no faults.
-fn play_whole(alloc: Global, script: &[u8], piece: u32) -> Result<(u8, Bytes), Memory>
+pub(crate) fn play_whole(alloc: Global, script: &[u8], piece: u32) -> Result<(u8, Bytes), Memory>
     requires { 0 < piece }
 {
     play(
@@ -50,9 +54,9 @@ fn scripts_and_their_traces(rt: HostRuntime) -> Result<(), Fail> {
     let alloc = rt.alloc();
     let empty_totals = "total 1 1 ul 0 0 0\ntotal 1 1 dl 0 0 0\ndone\n";
     let replies =
-        "relayscript 1\n\n# a comment\nremote 1\nbearer 1 1 12 12\ngo\nsubmit 1 2 ul 61\nsubmit 2 1 ul 61\nsubmit 1 1 ul -\ngrant d1.1 ul 100\ngrant d1.2 ul 100\nsubmit 1 1 ul 61\ngrant d1.1 ul 4\ngrant d1.1 ul 5\nrepeat 1\nrepeat 1\ndeliver 1\ndeliver 1\nsubmit 1 1 ul 62\nsubmit 1 1 ul 63\ngrant d1.1 ul 100\ngrant d1.1 ul 100\nlose 2\nlose 2\ndeliver 2\n#\ndeliver 3\nrepeat 9\nend\nfly\n";
+        "relayscript 1\n\n# a comment\nremote 1\nbearer 1 1 12 12\ngo\nsubmit 1 2 ul 61\nsubmit 2 1 ul 61\nsubmit 1 1 ul -\ngrant d1.1 ul 100\ngrant d1.2 ul 100\nsubmit 1 1 ul 61\ngrant d1.1 ul 2\ngrant d1.1 ul 5\nrepeat 1\nrepeat 1\ndeliver 1\ndeliver 1\nsubmit 1 1 ul 62\nsubmit 1 1 ul 63\ngrant d1.1 ul 100\ngrant d1.1 ul 100\nlose 2\nlose 2\ndeliver 2\n#\ndeliver 3\nrepeat 9\nend\nfly\n";
     let replied =
-        "nobearer\nnobearer\nempty\nidle\nnoport\nok 0\nsmall 5\nair 1 data 0 c000800061\n  up 1 1 ul 61\nok up 1\nok repeat\nok repeat\nnoair\nok 1\nok 2\nair 2 data 1 8001800162\nair 3 data 2 c002800263\nok\nnoair\nnoair\nok waiting\nnoair\ntotal 1 1 ul 3 1 0\ntotal 1 1 dl 0 0 0\ndone\n";
+        "nobearer\nnobearer\nempty\nidle\nnoport\nok 0\nsmall 3\nair 1 data 0 c000800061\n  up 1 1 ul 61\nok up 1\nok repeat\nok repeat\nnoair\nok 1\nok 2\nair 2 data 1 8001800162\nair 3 data 2 c002800263\nok\nnoair\nnoair\nok waiting\nnoair\ntotal 1 1 ul 3 1 0\ntotal 1 1 dl 0 0 0\ndone\n";
     for (script, status, trace) in [
         (FIRST_DELIVERY, 0, FIRST_TRACE),
         (
@@ -61,6 +65,17 @@ fn scripts_and_their_traces(rt: HostRuntime) -> Result<(), Fail> {
             empty_totals,
         ),
         (TABLES, 0, empty_totals),
+        (WIDE_TABLES, 0, empty_totals),
+        (
+            "relayscript 1\nremote 1\nbearer 1 1 18 12\n",
+            1,
+            "bad 3 later\n",
+        ),
+        (
+            "relayscript 1\nremote 1\nbearer 1 1 12 13\n",
+            1,
+            "bad 3 later\n",
+        ),
         (
             "relayscript 1\nremote 1\nbearer 1 1 12 12\ngo",
             0,
@@ -283,10 +298,10 @@ fn every_order_of_five_deliveries(rt: HostRuntime) -> Result<(), Fail> {
     Ok(())
 }
 
-#[test]
-fn full_windows_and_long_sdus(rt: HostRuntime) -> Result<(), Fail> {
-    let alloc = rt.alloc();
-    let mut script = String::from_str(alloc, TABLES)?;
+/// A full window of SDUs of one byte, each in one PDU, and what is refused behind it. RLC sequence numbers have 12 bits, or
+/// 18 where they are wide.
+fn play_full_window(rt: &impl Abort, alloc: Global, wide: bool) -> Result<(), Fail> {
+    let mut script = String::from_str(alloc, if wide { WIDE_TABLES } else { TABLES })?;
     let mut trace = String::new(alloc);
     for count in 0..2048 {
         script.push_str("submit 1 1 ul 61\n")?;
@@ -306,13 +321,18 @@ fn full_windows_and_long_sdus(rt: HostRuntime) -> Result<(), Fail> {
     for number in 0..2048 {
         script.push_str("grant d1.1 ul 100\n")?;
         let ticket = number + 1;
-        let first = if ticket % 32 == 0 { 0xc0 } else { 0x80 } + number / 256;
-        let high = 0x80 + number / 256;
+        let first = if ticket % 32 == 0 { 0xc0 } else { 0x80 };
+        let high = number / 256;
         let low = number % 256;
-        write!(
-            trace,
-            "air {ticket} data {number} {first:02x}{low:02x}{high:02x}{low:02x}61\n"
-        )?;
+        let pdcp = 0x80 + high;
+        write!(trace, "air {ticket} data {number} ")?;
+        if wide {
+            write!(trace, "{first:02x}{high:02x}{low:02x}")?;
+        } else {
+            let narrow = first + high;
+            write!(trace, "{narrow:02x}{low:02x}")?;
+        }
+        write!(trace, "{pdcp:02x}{low:02x}61\n")?;
     }
     script.push_str("grant d1.1 ul 100\n")?;
     trace.push_str("idle\n")?;
@@ -321,6 +341,12 @@ fn full_windows_and_long_sdus(rt: HostRuntime) -> Result<(), Fail> {
     assert_eq!(rt; status, 0);
     assert_eq!(rt; written.as_slice(), trace.as_bytes());
     Ok(())
+}
+
+#[test]
+fn full_windows_and_long_sdus(rt: HostRuntime) -> Result<(), Fail> {
+    play_full_window(&rt, rt.alloc(), false)?;
+    play_full_window(&rt, rt.alloc(), true)
 }
 
 #[test]

@@ -9,11 +9,12 @@ use Rattle.link_base.specs.declared.names.Drb.{Drb}
 use Rattle.link_base.specs.declared.names.Key.{Key}
 use Rattle.link_base.specs.declared.names.Way.{Way}
 use Rattle.link_base.specs.declared.names.Way.TheVariants.{Ul, Dl}
+use Rattle.link_base.specs.declared.names.SnSize.{SnSize}
 use Rattle.link_base.specs.declared.names.SnSize.TheVariants.{S12, S18}
 use Rattle.link_base.specs.declared.names.PortName.{PortName}
 use Rattle.link_base.specs.declared.names.PortName.TheVariants.{Direct, Pc5, Uu}
 use Rattle.script_text.specs.Words.{IsNumber, IsTicket, IsRemote, IsDrb, IsHex, IsPort, IsGrantSize}
-use Rattle.script_text.specs.Lines.{Spells, NamesTicket}
+use Rattle.script_text.specs.Lines.{size_text, Spells, NamesTicket}
 use Rattle.script_text.specs.declared.line.Line.{Line}
 use Rattle.script_text.specs.declared.line.Line.TheVariants.{Version, Remote, Bearer, Go, Submit, Grant, Deliver, Repeat, Lose, End}
 
@@ -41,8 +42,7 @@ head ws = named (get_or ws 0 [])
 form_is : (ws : List (List ℕ)) (l : Line) → Spells ws l → head ws ≡ form l
 form_is ws (Version n) x = ap head x.0
 form_is ws (Remote r) x = ap head x.1
-form_is ws (Bearer r d S12 S12) x = ap head x.2
-form_is ws (Bearer r d S12 S18) x = absurd x
+form_is ws (Bearer r d S12 c) x = ap head x.2
 form_is ws (Bearer r d S18 c) x = absurd x
 form_is ws Go x = ap head x
 form_is ws (Submit k s) x = ap head x.3
@@ -101,6 +101,12 @@ port_one v w (Direct r d) (Uu c) same x y = absurd y
 port_one v w (Pc5 r c) q same x y = absurd x
 port_one v w (Uu c) q same x y = absurd x
 
+size_one : (a b : SnSize) → size_text a ≡ size_text b → a ≡ b
+size_one S12 S12 same = refl
+size_one S18 S18 same = refl
+size_one S12 S18 same = absurd (let octet : 50 ≡ 56 = ap (λ (l : List ℕ). get_or l 1 0) same in omega (arith, octet))
+size_one S18 S12 same = absurd (let octet : 56 ≡ 50 = ap (λ (l : List ℕ). get_or l 1 0) same in omega (arith, octet))
+
 one_form : (ws : List (List ℕ)) (a b : Line) → Spells ws a → Spells ws b → form a ≡ form b
 one_form ws a b x y = sym (form_is ws a x) ∙ form_is ws b y
 
@@ -112,11 +118,10 @@ one_line ws (Deliver s) (Deliver t) x y = ap (λ (n : ℕ). Deliver n) (ticket_o
 one_line ws (Repeat s) (Repeat t) x y = ap (λ (n : ℕ). Repeat n) (ticket_one _ ws s t x y)
 one_line ws (Lose s) (Lose t) x y = ap (λ (n : ℕ). Lose n) (ticket_one _ ws s t x y)
 one_line ws (Remote r) (Remote s) x y = ap (λ (v : Name). Remote v) (remote_one _ _ r s (word_one ws _ _ 1 x.1 y.1) x.2 y.2)
-one_line ws (Bearer r d S12 S12) (Bearer s e S12 S12) x y =
-    ap (λ (v : Name). Bearer v d S12 S12) (remote_one _ _ r s (word_one ws _ _ 1 x.2 y.2) x.3 y.3) ∙ ap (λ (v : Drb). Bearer s v S12 S12) (drb_one _ _ d e (word_one ws _ _ 2 x.2 y.2) x.4 y.4)
-one_line ws (Bearer r d S12 S12) (Bearer s e S12 S18) x y = absurd y
-one_line ws (Bearer r d S12 S12) (Bearer s e S18 c) x y = absurd y
-one_line ws (Bearer r d S12 S18) b x y = absurd x
+one_line ws (Bearer r d S12 b) (Bearer s e S12 c) x y =
+    ap (λ (v : Name). Bearer v d S12 b) (remote_one _ _ r s (word_one ws _ _ 1 x.2 y.2) x.3 y.3) ∙ (ap (λ (v : Drb). Bearer s v S12 b) (drb_one _ _ d e (word_one ws _ _ 2 x.2 y.2) x.4 y.4)
+    ∙ ap (λ (v : SnSize). Bearer s e S12 v) (size_one b c (word_one ws _ _ 4 x.2 y.2)))
+one_line ws (Bearer r d S12 b) (Bearer s e S18 c) x y = absurd y
 one_line ws (Bearer r d S18 c) b x y = absurd x
 one_line ws (Submit k s) (Submit l t) x y =
     let remotes = remote_one _ _ k.remote l.remote (word_one ws _ _ 1 x.3 y.3) x.4 y.4 in

@@ -14,7 +14,7 @@ use Rattle.script_text.specs.declared.line.Line.TheVariants.{Version, Remote, Be
 abbrev pub stage_after : ScriptStage → Line → Option ScriptStage
 stage_after Start (Version number) = Some (Tables Empty)
 stage_after (Tables Empty) (Remote r) = Some (Tables (OneRemote r))
-stage_after (Tables (OneRemote s)) (Bearer r d pdcp direct) = if s.0 == r.0 then Some (Tables (OneBearer r d)) else None
+stage_after (Tables (OneRemote s)) (Bearer r d pdcp direct) = if s.0 == r.0 then Some (Tables (OneBearer r d direct)) else None
 stage_after (Tables table) Go = Some (Running table)
 stage_after (Running table) (Submit key sdu) = Some (Running table)
 stage_after (Running table) (Grant port way n) = Some (Running table)
@@ -42,12 +42,12 @@ is_ended stage = false
 
 -- whether the tables have a bearer
 abbrev pub is_served : BearerTable → Bool
-is_served (OneBearer r d) = true
+is_served (OneBearer r d size) = true
 is_served table = false
 
 -- whether the tables have this bearer
 abbrev pub has_bearer : BearerTable → ℕ → ℕ → Bool
-has_bearer (OneBearer r d) remote drb = (r.0 == remote) && (d.0 == drb)
+has_bearer (OneBearer r d size) remote drb = (r.0 == remote) && (d.0 == drb)
 has_bearer table remote drb = false
 
 -- whether the tables have this port

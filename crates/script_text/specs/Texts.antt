@@ -13,7 +13,7 @@ use Rattle.script_text.specs.declared.line.Line.TheVariants.{Submit, Grant, Deli
 use Rattle.script_text.specs.declared.event.Event.{Event}
 use Rattle.script_text.specs.declared.event.Event.TheVariants.{Up}
 use Rattle.script_text.specs.declared.reply.Reply.{Reply}
-use Rattle.script_text.specs.declared.reply.Reply.TheVariants.{Ok, OkNumber, OkUp, OkRepeat, OkWaiting, NoBearer, NoPort, NoAir, Empty as EmptySdu, Long, Full, Idle, Small, Air}
+use Rattle.script_text.specs.declared.reply.Reply.TheVariants.{Ok, OkNumber, OkUp, OkStored, OkRepeat, OkOutside, OkConflict, OkWaiting, OkOld, OkTwice, OkNoCount, NoBearer, NoPort, NoAir, Empty as EmptySdu, Long, Full, AirFull, Worn, Idle, Small, Air}
 
 abbrev pub way_text : Way → List ℕ
 way_text Ul = codes "ul"
@@ -35,14 +35,22 @@ abbrev pub reply_text : Reply → List ℕ
 reply_text Ok = codes "ok"
 reply_text (OkNumber n) = codes "ok " ++ decimal n
 reply_text (OkUp n) = codes "ok up " ++ decimal n
+reply_text OkStored = codes "ok stored"
 reply_text OkRepeat = codes "ok repeat"
+reply_text OkOutside = codes "ok outside"
+reply_text OkConflict = codes "ok conflict"
 reply_text OkWaiting = codes "ok waiting"
+reply_text OkOld = codes "ok old"
+reply_text OkTwice = codes "ok twice"
+reply_text OkNoCount = codes "ok nocount"
 reply_text NoBearer = codes "nobearer"
 reply_text NoPort = codes "noport"
 reply_text NoAir = codes "noair"
 reply_text EmptySdu = codes "empty"
 reply_text Long = codes "long"
 reply_text (Full n) = codes "full " ++ decimal n
+reply_text AirFull = codes "airfull"
+reply_text Worn = codes "worn"
 reply_text Idle = codes "idle"
 reply_text (Small n) = codes "small " ++ decimal n
 reply_text (Air ticket status number bytes) = codes "air " ++ decimal ticket ++ codes " " ++ kind_text status ++ codes " " ++ decimal number ++ codes " " ++ encode_lower bytes
@@ -74,7 +82,7 @@ total_text key submitted handed confirmed = codes "total " ++ key_text key ++ co
 
 -- the totals of the one bearer, both ways
 abbrev pub totals_text : BearerTable → ℕ → ℕ → List ℕ
-totals_text (OneBearer r d) submitted handed =
+totals_text (OneBearer r d size) submitted handed =
     total_text (record { remote = r; drb = d; way = Ul }) submitted handed 0
     ++ total_text (record { remote = r; drb = d; way = Dl }) 0 0 0
 totals_text table submitted handed = []

@@ -1,7 +1,7 @@
 // The forms of lines. Each form has a function, which answers None exactly where no line of that form is spelt so.
 ghost use Rattle.std.specs.Prelude.{◌≡◌, ℕ, List, ◌∷◌, [], map, MatchOption, IfOk, IsTrue, ◌↔◌};
 ghost use Rattle.script_text.specs.Words.{words_of};
-ghost use Rattle.script_text.specs.Lines.{NamesTicket, Spells, SpellsNone};
+ghost use Rattle.script_text.specs.Lines.{size_text, NamesTicket, Spells, SpellsNone};
 
 use crate::Line;
 use crate::words::{drb, hex_bytes, is_word, number, parts_at, port, remote};
@@ -45,6 +45,19 @@ fn remote_line(words: &[&[u8]]) -> Option<Line>
     Some(Line::Remote { remote })
 }
 
+/// The size of sequence numbers that a word spells.
+fn size(word: &[u8]) -> Option<SnSize>
+    ensures { MatchOption result ((size : _) → word.now ≡ size_text size → ⊥) (λ size. word.now ≡ size_text size) }
+{
+    if is_word(word, b"12") {
+        return Some(SnSize::S12);
+    }
+    if is_word(word, b"18") {
+        return Some(SnSize::S18);
+    }
+    None
+}
+
 fn bearer_line(words: &[&[u8]]) -> Option<Line>
     ensures { MatchOption result
         ((r d p c : _) → Spells (map (λ w. w.now) words.now) (Line.Bearer r d p c) → ⊥)
@@ -53,9 +66,12 @@ fn bearer_line(words: &[&[u8]]) -> Option<Line>
     if words.len() != 5 || !is_word(words[0], b"bearer") {
         return None;
     }
-    if !is_word(words[3], b"12") || !is_word(words[4], b"12") {
+    if !is_word(words[3], b"12") {
         return None;
     }
+    let Some(direct) = size(words[4]) else {
+        return None;
+    };
     let Some(remote) = remote(words[1]) else {
         return None;
     };
@@ -66,7 +82,7 @@ fn bearer_line(words: &[&[u8]]) -> Option<Line>
         remote,
         drb,
         pdcp: SnSize::S12,
-        direct: SnSize::S12,
+        direct,
     })
 }
 

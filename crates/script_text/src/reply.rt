@@ -10,10 +10,22 @@ pub enum Reply {
     OkNumber(u64),
     /// `ok up N`: so many SDUs were handed up.
     OkUp(u64),
+    /// `ok stored`: the PDU brought something new of an SDU that isn't complete yet.
+    OkStored,
     /// `ok repeat`: the PDU brought nothing new.
     OkRepeat,
+    /// `ok outside`: no number near RX_Next has the PDU's sequence number.
+    OkOutside,
+    /// `ok conflict`: the PDU disagrees with what is held about its SDU's end.
+    OkConflict,
     /// `ok waiting`: the SDU waits for one with a lower COUNT.
     OkWaiting,
+    /// `ok old`: an SDU with this COUNT was handed up.
+    OkOld,
+    /// `ok twice`: an SDU with this COUNT waits.
+    OkTwice,
+    /// `ok nocount`: no COUNT near RX_DELIV has the PDU's sequence number.
+    OkNoCount,
     /// `nobearer`: the tables have no such bearer.
     NoBearer,
     /// `noport`: there is no such port.
@@ -26,6 +38,10 @@ pub enum Reply {
     Long,
     /// `full N`: as many SDUs as may be are unconfirmed; N of the key are confirmed.
     Full(u64),
+    /// `airfull`: 16,384 PDUs are on the air.
+    AirFull,
+    /// `worn`: 2^61 tickets were made.
+    Worn,
     /// `idle`: nothing is there to be sent.
     Idle,
     /// `small N`: the next PDU needs at least so many bytes.

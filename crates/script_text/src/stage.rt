@@ -3,7 +3,7 @@ ghost use Rattle.std.specs.Prelude.{◌≡◌};
 ghost use Rattle.script_text.specs.Lines.{is_skipped};
 
 use crate::Line;
-use link_base::{Drb, Remote};
+use link_base::{Drb, Remote, SnSize};
 
 /// What the table lines have declared: at most one remote, with at most one bearer.
 #[derive(Clone, Copy, Debug, PartialEq, Eq)]
@@ -12,8 +12,8 @@ pub enum BearerTable {
     Empty,
     /// A remote with no bearer.
     Remote(Remote),
-    /// A remote with a bearer.
-    Bearer(Remote, Drb),
+    /// A remote with a bearer, and the size of the RLC sequence numbers on its direct port.
+    Bearer(Remote, Drb, SnSize),
 }
 
 /// How far a script has come.
@@ -30,7 +30,17 @@ pub enum ScriptStage {
 }
 
 impl ScriptStage {
-    ghost use Rattle.script_text.specs.Stages.{stage_after};
+    ghost use Rattle.script_text.specs.Stages.{stage_after, table_of};
+
+    /// The tables, once they are closed.
+    pub fn table(self) -> BearerTable
+        ensures { result ≡ table_of self }
+    {
+        match self {
+            ScriptStage::Running(table) | ScriptStage::Ended(table) => table,
+            _ => BearerTable::Empty,
+        }
+    }
 
     /// The stage behind a line, or None where the line may not stand here.
     pub fn after(self, line: &Line) -> Option<ScriptStage>
@@ -43,9 +53,17 @@ impl ScriptStage {
             (ScriptStage::Tables(BearerTable::Empty), Line::Remote { remote }) => {
                 Some(ScriptStage::Tables(BearerTable::Remote(*remote)))
             }
-            (ScriptStage::Tables(BearerTable::Remote(named)), Line::Bearer { remote, drb, .. }) => {
+            (
+                ScriptStage::Tables(BearerTable::Remote(named)),
+                Line::Bearer {
+                    remote,
+                    drb,
+                    direct,
+                    ..
+                },
+            ) => {
                 if named == *remote {
-                    Some(ScriptStage::Tables(BearerTable::Bearer(*remote, *drb)))
+                    Some(ScriptStage::Tables(BearerTable::Bearer(*remote, *drb, *direct)))
                 } else {
                     None
                 }

@@ -60,14 +60,22 @@ fn push_reply(alloc: Global, out: &mut String, reply: &Reply) -> Result<(), Allo
         Reply::Ok => out.push_str("ok"),
         Reply::OkNumber(n) => write!(out, "ok {n}"),
         Reply::OkUp(n) => write!(out, "ok up {n}"),
+        Reply::OkStored => out.push_str("ok stored"),
         Reply::OkRepeat => out.push_str("ok repeat"),
+        Reply::OkOutside => out.push_str("ok outside"),
+        Reply::OkConflict => out.push_str("ok conflict"),
         Reply::OkWaiting => out.push_str("ok waiting"),
+        Reply::OkOld => out.push_str("ok old"),
+        Reply::OkTwice => out.push_str("ok twice"),
+        Reply::OkNoCount => out.push_str("ok nocount"),
         Reply::NoBearer => out.push_str("nobearer"),
         Reply::NoPort => out.push_str("noport"),
         Reply::NoAir => out.push_str("noair"),
         Reply::Empty => out.push_str("empty"),
         Reply::Long => out.push_str("long"),
         Reply::Full(n) => write!(out, "full {n}"),
+        Reply::AirFull => out.push_str("airfull"),
+        Reply::Worn => out.push_str("worn"),
         Reply::Idle => out.push_str("idle"),
         Reply::Small(n) => write!(out, "small {n}"),
         Reply::Air {
@@ -164,7 +172,7 @@ fn push_totals(
     ensures { OnOk result (string_bytes out.new ≡ string_bytes out.old ++ totals_text table submitted handed) }
 {
     match table {
-        BearerTable::Bearer(remote, drb) => {
+        BearerTable::Bearer(remote, drb, _) => {
             let uplink = Key {
                 remote,
                 drb,

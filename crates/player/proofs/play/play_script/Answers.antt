@@ -4,16 +4,16 @@ use Rattle.std.proofs.lemmas.Result.{IfOk-weaker}
 use Rattle.script_text.specs.Stages.{is_running, is_ended}
 use Rattle.script_text.specs.Texts.{bad_text}
 use Rattle.player.specs.Runs.{IsRun}
-use Rattle.player.proofs.Going.{going_on, run_done, run_later, run_no_go, run_too_long, not_running, not_ended}
+use Rattle.player.proofs.Going.{going_on, run_done, run_long, run_later, run_no_go, run_too_long, not_running, not_ended}
 use Rattle.player.proofs.play.play_script.Goals as goal
 
 pub loop-player-preserved : goal.loop-player-preserved
 loop-player-preserved c =
     let g = c.loop-player.invariant in
     let line = c.in-Line.ensures in
-    let step = c.in_ok-read-in-Line.ensures g.history g.plays g.written in
+    let step = c.in_ok-read-in-Line.ensures.reads g.history g.plays g.written in
     going_on c.args.input.now c.loop-player.rest.now c.in-Line.text.now c.in-Line.after.now c.loop-player.number c.loop-player.player c.read.new.self (string_bytes c.loop-player.out) (string_bytes c.read.new.out) c.in_ok-read-in-Line.field-0 g
-    line.0 line.1 step c.in-Skipped.is
+    line.0 line.1 step c.in_ok-read-in-Line.ensures.fits c.in-Skipped.is
 
 pub returns-in-Ended : goal.returns-in-Ended
 returns-in-Ended c =
@@ -32,10 +32,15 @@ returns-in-Bad c =
     let g = c.loop-player.invariant in
     let line = c.in-Line.ensures in
     let going = not_ended c.loop-player.player.stage c.in_default.not-Ended in
-    let step = c.in_ok-read-in-Line.ensures g.history g.plays g.written in
+    let step = c.in_ok-read-in-Line.ensures.reads g.history g.plays g.written in
     let bad = rw c.in-Bad.is at step in
     run_later c.args.input.now c.loop-player.rest.now c.loop-player.number c.loop-player.player (string_bytes c.loop-player.out) (string_bytes c.push_bad_line.new.out) g going c.in-Line.text.now c.in-Line.after.now line.0 line.1.short bad.0 bad.1
     (c.in_ok-push_bad_line-in-Bad.ensures ∙ ap (λ (l : List ℕ). l ++ bad_text c.loop-player.number (codes "later")) (bad.3 ∙ sym g.written))
+
+pub returns-in-Long : goal.returns-in-Long
+returns-in-Long c =
+    let going = not_ended c.loop-player.player.stage c.in_default.not-Ended in
+    run_long c.args.input.now c.loop-player.rest.now c.loop-player.number c.loop-player.player (string_bytes c.loop-player.out) (string_bytes c.push_bad_line-in-Long.new.out) c.loop-player.invariant going c.in-Long.ensures c.in_ok-push_bad_line-in-Long.ensures
 
 pub returns-in-TooLong : goal.returns-in-TooLong
 returns-in-TooLong c =

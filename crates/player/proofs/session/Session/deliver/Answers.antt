@@ -1,47 +1,18 @@
-use Rattle.std.proofs.Common.{ℕ, ◌≡◌, ◌+◌, ◌-◌, ◌∙◌, refl, ap, subst, arith, vec_len}
+use Rattle.std.proofs.Common.{◌≡◌, ◌-◌, get_or, sym, ◌∙◌, ap, subst}
 use Rattle.std.proofs.Math.ListN.{set}
-use Rattle.std.specs.declared.option.Option.TheVariants.{None}
-use Rattle.script_text.specs.declared.stage.BearerTable.{BearerTable}
-use Rattle.script_text.specs.declared.line.Line.TheVariants.{Deliver}
-use Rattle.script_text.specs.declared.reply.Reply.TheVariants.{NoAir}
-use Rattle.player.specs.Stands.{Suits}
-use Rattle.player.proofs.Receiving.{waits_within}
-use Rattle.player.proofs.Delivering.{delivers_one}
-use Rattle.player.proofs.Hearing.{heard_answers, heard_stands, none_answers, stands_seen, as_session, delivers_airs, deliver_refused}
+use Rattle.std.specs.declared.option.Option.TheVariants.{Some, None}
+use Rattle.chain_model.specs.Chain.{Chain, pdu_of}
+use Rattle.chain_model.specs.Steps.{HearsTicket}
+use Rattle.player.specs.Session.{chain_of}
+use Rattle.player.proofs.Carrying.{taken_off, none_heard}
+use Rattle.player.proofs.Hearing.{at_ticket}
 use Rattle.player.proofs.session.Session.deliver.Goals as goal
 
-pub take_off-requires-clause-made : goal.take_off-requires-clause-made
-take_off-requires-clause-made c =
-    let x = rw c.in-Some.is at c.in_ok-answer.ensures.heard in
-    let within = waits_within c.args.self.now.air.items (c.args.ticket - 1) x.bytes x.there in
-    omega (arith, within, ap (λ v. vec_len v) x.same.2)
-
-pub returns-in-Some-clause-step : goal.returns-in-Some-clause-step
-returns-in-Some-clause-step c = λ h s.
-    let a = c.args.self.now in
-    let b = c.hear.new.self in
-    let d = c.take_off.new.self in
-    let t = c.args.ticket in
-    let n : ℕ = t - 1 in
-    let answer = c.in-Some.answer in
-    let x = rw c.in-Some.is at c.in_ok-answer.ensures.heard in
-    let took = c.take_off.ensures in
-    let place : t ≡ n + 1 = omega (arith, c.requires) in
-    let within = waits_within a.air.items n x.bytes x.there in (
-      heard_answers a b t answer.events answer.reply h c.requires s x,
-      λ key suits.
-          let own = subst (λ (table : BearerTable). Suits table key) (took.same.0 ∙ c.in_ok-answer.ensures.table) suits in
-          as_session d key a.sdus (set a.air.items n None) b.receiver.waiting.items b.receiver.handed a.pdu_without_poll _ (took.same.1 ∙ x.same.1) (took.air ∙ ap (λ v. set v.items n None) x.same.2)
-          (ap (λ r. r.waiting.items) took.same.2) (ap (λ r. r.handed) took.same.2) (took.same.3 ∙ x.same.3)
-          (heard_stands a b (set a.air.items n None) (Deliver t) t answer.events answer.reply h c.requires s x (λ k. delivers_one k t) (delivers_airs a.air.items t n place within) key own),
-    )
-
-pub returns-in-None-clause-step : goal.returns-in-None-clause-step
-returns-in-None-clause-step c = λ h s.
-    let a = c.args.self.now in
-    let t = c.args.ticket in
-    let none = rw c.in-None.is at c.in_ok-answer.ensures.none in
-    let plain = c.plain.ensures in (
-      none_answers a t h c.plain.result.events c.plain.result.reply c.requires s none.0 plain.events plain.reply,
-      stands_seen a c.hear.new.self (Deliver t) (Deliver t) c.plain.result.events NoAir c.plain.result.reply h none.1 refl plain.events plain.reply (λ key suits. deliver_refused key _ _ _ _ _ h t (s key suits)),
-    )
+pub returns : goal.returns
+returns c =
+    let old : Chain = c.args.self.now in
+    let heard : Chain = chain_of c.self.inside in
+    let said = subst (λ (h : Chain). HearsTicket old (pdu_of old c.args.ticket) c.in_ok-answer.answer.events c.in_ok-answer.answer.reply h) (sym c.self.view_is) c.in_ok-answer.ensures in
+    let none : pdu_of old c.args.ticket ≡ None → get_or heard.air (c.args.ticket - 1) None ≡ None =
+    λ e. ap (λ (h : Chain). get_or h.air (c.args.ticket - 1) None) (none_heard old (pdu_of old c.args.ticket) _ _ heard said e) ∙ at_ticket old c.args.ticket c.requires.ticket e in
+    (heard, said, ap (λ l. record heard { air = l }) c.take_off.ensures.off ∙ taken_off heard c.args.ticket (pdu_of old c.args.ticket) none)

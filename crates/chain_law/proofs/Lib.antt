@@ -1,0 +1,12 @@
+pub mod FitsFacts
+pub mod FitsPassed
+pub mod FitsHear
+pub mod FitsMore
+pub mod FitsSteps
+pub mod Keys
+pub mod Tells
+pub mod TellsQuiet
+pub mod TellsMore
+pub mod TellsSteps
+pub mod HandsUp
+pub mod CarriesSdus

@@ -1,0 +1,9 @@
+//! The laws of a run: what is handed up is what was submitted, exactly as far as the delivered PDUs complete it.
+//!
+//! A law has no code. It is the contract of a function with an empty body, over the definitions of chain_model; specs/ has
+//! its statement.
+#![tactic(auto)]
+
+mod laws;
+
+pub use laws::{runs_carry_what_was_accepted, runs_hand_up_what_was_heard, runs_never_conflict};

@@ -1,0 +1,17 @@
+use Rattle.std.proofs.Common.{◌≡◌, refl, ap, subst}
+use Rattle.rlc_model.specs.declared.transmitter.TxGrant.{TxGrant}
+use Rattle.rlc_model.specs.declared.transmitter.TxGrant.TheVariants.{Small}
+use Rattle.rlc_model.specs.Tx.{Tx, Grants}
+use Rattle.script_text.specs.declared.reply.Reply.TheVariants as reply
+use Rattle.chain_model.specs.Chain.{Chain}
+use Rattle.chain_model.specs.Steps.{Granted}
+use Rattle.player.specs.Session.{chain_of}
+use Rattle.player.proofs.session.Session.send.Goals as goal
+
+pub returns-in-Small : goal.returns-in-Small
+returns-in-Small c =
+    let before : Chain = chain_of c.self.inside in
+    let grants : Grants before.tx c.args.n (Small c.in-Small.need) c.grant.new.self = subst (λ (a : TxGrant). Grants before.tx c.args.n a c.grant.new.self) c.in-Small.is c.in_ok-grant.ensures.ok in
+    let same : record before { tx = c.grant.new.self } ≡ before = ap (λ (t : Tx). record before { tx = t }) grants.7 in
+    subst (λ (o : Chain). Granted o c.args.port c.args.way c.args.n (reply.Small c.in-Small.need) (record before { tx = c.grant.new.self })) c.self.view_is
+    (record { up = c.requires.way; answer = Small c.in-Small.need; tx = c.grant.new.self; grants = grants; sends = (refl, same) })
