@@ -7,3 +7,11 @@ pub mod Bounds
 pub mod Sent
 pub mod Slices
 pub mod Retransmitted
+pub mod Nacks
+pub mod BeyondAll
+pub mod Mentioned
+pub mod Pended
+pub mod Settled
+pub mod Acked
+pub mod Updated
+pub mod HeardStatus

@@ -136,7 +136,7 @@ unsent_is l u n i f =
       ]
     ]
 
-slot_kept : (o : Option Kept) (k : Kept) → o ≡ Some k → o ≢ None
+pub slot_kept : (o : Option Kept) (k : Kept) → o ≡ Some k → o ≢ None
 slot_kept o k is e = none-some k (sym e ∙ is)
 
 -- a piece that is next has an SDU

@@ -39,7 +39,7 @@ module _ (l : List (Option Kept)) (unsent : ℕ) (i : IsInOrder l unsent) where
   from_kept n ge lt = unsent_kept (at l n) (i.from n ge lt)
 
   -- of a number above `unsent` no byte was sent
-  above_not_sent : (n : ℕ) → unsent < n → n < length l → is_sent (at l n) ≡ true → ⊥
+  pub above_not_sent : (n : ℕ) → unsent < n → n < length l → is_sent (at l n) ≡ true → ⊥
   above_not_sent n gt lt is =
       let k = from_kept n (omega (arith, gt)) lt in
       not_begun k.0 (i.above n k.0 gt k.1) (sym (ap is_sent k.1) ∙ is)

@@ -1,22 +1,21 @@
 -- An SDU that is considered for retransmission.
-use Rattle.std.proofs.Common.{◌≡◌, ◌≢◌, ◌⊎◌, ◌↔◌, inl, inr, ℕ, zero, suc, ◌+◌, ◌-◌, ◌<◌, ◌≤◌, true, false, Bool, List, [], ◌∷◌, length, get_or, set, cond, is_some, Option, Some, None, refl, sym, ◌∙◌, ap, subst, arith}
+use Rattle.std.proofs.Common.{◌≡◌, ◌≢◌, ◌⊎◌, ◌↔◌, inl, inr, ℕ, ◌+◌, ◌-◌, ◌<◌, ◌≤◌, true, false, Bool, List, [], ◌∷◌, length, get_or, set, cond, is_some, Option, Some, None, refl, sym, ◌∙◌, ap, subst, arith}
 use Rattle.std.specs.Bool.{MatchBool, then_some}
 use Rattle.std.specs.Option.{is_none, option_to_list}
 use Rattle.std.specs.List.{prefix_len}
-use Rattle.std.proofs.lemmas.Bool.{cases_lt, cases_eq, false≢true}
+use Rattle.std.proofs.lemmas.Bool.{cases_eq, false≢true}
 use Rattle.std.proofs.lemmas.Bool.Decides.{nat_tests}
 use Rattle.std.proofs.lemmas.List.{get_or_default, length-set}
 use Rattle.std.proofs.lemmas.List.Folds.{prefix_len-set}
 use Rattle.std.proofs.lemmas.List.Sums.{sum_by-set}
 use Rattle.std.proofs.lemmas.Option.{none-some, same_Some}
-use Rattle.rlc_model.specs.Tx.{Tx, Kept, kept_at, tx_next, tx_next_ack, is_unsent, is_pending, PendingWaits, UnsentWaits}
+use Rattle.rlc_model.specs.Tx.{Tx, Kept, tx_next_ack, is_unsent, is_pending}
 use Rattle.rlc_model.specs.Retransmission.{Counts, first, again, stays, BecomesPending, LowestPends, RetransmitsLowest}
-use Rattle.rlc_am_tx.specs.Buffer.{at, kept_from, SomePending, NonePending, SomeUnsent, NoneUnsent, IsInOrder}
-use Rattle.rlc_am_tx.specs.Flags.{IsBefore, HasFresh, HasNoFresh, Pends, counted, comes_to, increments, retx_of}
+use Rattle.rlc_am_tx.specs.Buffer.{at, kept_from, SomePending, NonePending, SomeUnsent, NoneUnsent}
+use Rattle.rlc_am_tx.specs.Flags.{IsBefore, HasFresh, HasNoFresh, Pends, counted, comes_to, increments}
 use Rattle.rlc_am_tx.specs.Inside.{IsTidy}
-use Rattle.rlc_am_tx.specs.Pieces.{WaitsAmong}
 use Rattle.rlc_am_tx.specs.Retransmitting.{Retransmits, RetransmitsLowestOf}
-use Rattle.rlc_am_tx.proofs.Marked.{IsSetAt, IsFurther, kept_set, set_each, has_slot, order_same, same_lengths}
+use Rattle.rlc_am_tx.proofs.Marked.{IsSetAt, kept_set, set_each, has_slot, order_same, same_lengths}
 use Rattle.rlc_am_tx.proofs.Numbers.{given, kept_front, kept_slot, kept_long}
 use Rattle.rlc_am_tx.proofs.Sent.{no_pending, no_unsent, same_front}
 
@@ -119,23 +118,26 @@ lowest_pends t n mark new is pending unsent r others long =
 pub lowest_retransmits : (threshold : ℕ) (old new : List (Option Kept)) (n : ℕ) (mark : Bool) → prefix_len is_none old ≡ n → NonePending old → NoneUnsent old → Retransmits threshold (λ p. Unit {0}) (at old n) mark (at new n) → ((m : ℕ) → m ≢ n → at new m ≡ at old m) → length new ≡ length old → RetransmitsLowestOf threshold old (then_some mark n) new
 lowest_retransmits threshold old new n mark is pending unsent r others long t e s =
     RetransmitsLowest.retransmits (lowest_pends t n mark new (ap (λ (l : List (Option Kept)). prefix_len is_none l) e ∙ is) (subst NonePending (sym e) pending) (subst NoneUnsent (sym e) unsent)
-      (subst (λ h. Retransmits h (λ p. Unit {0}) (at t.kept n) mark (at new n)) (sym s) (subst (λ (l : List (Option Kept)). Retransmits threshold (λ p. Unit {0}) (at l n) mark (at new n)) (sym e) r))
-      (λ m ne. others m ne ∙ ap (λ (l : List (Option Kept)). at l m) (sym e)) (long ∙ ap length (sym e)))
+    (subst (λ h. Retransmits h (λ p. Unit {0}) (at t.kept n) mark (at new n)) (sym s) (subst (λ (l : List (Option Kept)). Retransmits threshold (λ p. Unit {0}) (at l n) mark (at new n)) (sym e) r))
+    (λ m ne. others m ne ∙ ap (λ (l : List (Option Kept)). at l m) (sym e)) (long ∙ ap length (sym e)))
 
 -- the numbers stay, and each count grows by at most one
 pub lowest_front : (t : Tx) (marks : List ℕ) (new : Tx) → RetransmitsLowest t marks new → (length new.kept ≡ length t.kept) × (prefix_len is_none new.kept ≡ prefix_len is_none t.kept)
 lowest_front t marks new (RetransmitsLowest.stays why none same) = (ap (λ (x : Tx). length x.kept) same, ap (λ (x : Tx). prefix_len is_none x.kept) same)
-lowest_front t marks new (RetransmitsLowest.retransmits r) = (r.long, same_front new.kept t.kept r.long (λ n. elim (cases_eq n (tx_next_ack t)) [
-  | inl eq ↦ ap (λ m. is_none (at new.kept m)) eq ∙ ap is_none r.is ∙ sym (ap is_none r.was) ∙ sym (ap (λ m. is_none (at t.kept m)) eq)
-  | inr ne ↦ ap is_none (r.others n ne)
-]))
+lowest_front t marks new (RetransmitsLowest.retransmits r) = (
+  r.long,
+  same_front new.kept t.kept r.long (λ n. elim (cases_eq n (tx_next_ack t)) [
+    | inl eq ↦ ap (λ m. is_none (at new.kept m)) eq ∙ ap is_none r.is ∙ sym (ap is_none r.was) ∙ sym (ap (λ m. is_none (at t.kept m)) eq)
+    | inr ne ↦ ap is_none (r.others n ne)
+  ]),
+)
 
 pub lowest_counts : (t : Tx) (marks : List ℕ) (new : Tx) (bound : ℕ) → RetransmitsLowest t marks new → ((n : ℕ) (k : Kept) → at t.kept n ≡ Some k → increments k.retx_count ≤ bound) → (n : ℕ) (k : Kept) → at new.kept n ≡ Some k → increments k.retx_count ≤ bound + 1
 lowest_counts t marks new bound (RetransmitsLowest.stays why none same) each n k is = omega (arith, each n k (sym (ap (λ (x : Tx). at x.kept n) same) ∙ is))
 lowest_counts t marks new bound (RetransmitsLowest.retransmits r) each n k is = elim (cases_eq n (tx_next_ack t)) [
   | inl eq ↦
-    let same : r.behind ≡ k = same_Some r.behind k (sym r.is ∙ ap (at new.kept) (sym eq) ∙ is) in
-    omega (arith, counts_grow t.max_retx_threshold r.before r.behind _ r.becomes.counts, ap (λ (x : Kept). increments x.retx_count) same, each (tx_next_ack t) r.before r.was)
+      let same : r.behind ≡ k = same_Some r.behind k (sym r.is ∙ ap (at new.kept) (sym eq) ∙ is) in
+      omega (arith, counts_grow t.max_retx_threshold r.before r.behind _ r.becomes.counts, ap (λ (x : Kept). increments x.retx_count) same, each (tx_next_ack t) r.before r.was)
   | inr ne ↦ omega (arith, each n k (sym (r.others n ne) ∙ is))
 ]
 

@@ -1,8 +1,9 @@
 -- Numbers that wait for retransmission, and what buffers tell of one slot.
-use Rattle.std.proofs.Common.{◌≡◌, ℕ, ◌+◌, ◌-◌, ◌<◌, ◌≤◌, true, false, List, length, get_or, Option, Some, None, sym, ◌∙◌, ap, subst, arith}
+use Rattle.std.proofs.Common.{◌≡◌, inl, inr, ℕ, ◌+◌, ◌-◌, ◌<◌, ◌≤◌, true, false, Bool, cond, List, length, get_or, Option, Some, None, refl, sym, ◌∙◌, ap, subst, arith}
 use Rattle.std.specs.Ordering.{nat_cmp, is_gt}
-use Rattle.std.specs.BTreeSet.{BTreeSet, contains, IsLowerBound}
-use Rattle.std.proofs.lemmas.Bool.{false≢true}
+use Rattle.std.specs.BTreeSet.{BTreeSet, contains, IsLowerBound, Updates}
+use Rattle.std.specs.BTreeMap.{is_at}
+use Rattle.std.proofs.lemmas.Bool.{cases_eq, false≢true}
 use Rattle.std.proofs.lemmas.List.{get_or_default}
 use Rattle.std.proofs.lemmas.Bool.Decides.{nat_tests}
 use Rattle.link_base.specs.declared.names.LocalId.{LocalId}
@@ -39,3 +40,21 @@ slot_bears base slots ue i None is lt b = absurd b
 slot_bears base slots ue i (Some k) is lt b =
     let here : base + i - base ≡ i = omega arith in
     (base + i, k, kept_slot base slots (base + i) (omega arith) ∙ ap (at slots) here ∙ get_or_default slots i None (Some k) lt ∙ sym is, b)
+
+true_both : (b : Bool) → cond b true true ≡ true
+true_both true = refl
+true_both false = refl
+
+-- a number that waits still does once one more does
+pub insert_keeps : (old new : BTreeSet ℕ) (k : ℕ) → Updates nat_cmp old new k true → (n : ℕ) → contains nat_cmp old n ≡ true → contains nat_cmp new n ≡ true
+insert_keeps old new k u n is = u.0 n ∙ ap (λ (x : Bool). cond (is_at (nat_cmp k) n) true x) is ∙ true_both (is_at (nat_cmp k) n)
+
+pub insert_has : (old new : BTreeSet ℕ) (k : ℕ) → Updates nat_cmp old new k true → contains nat_cmp new k ≡ true
+insert_has old new k u = u.1
+
+-- the numbers below one more wait
+pub insert_below : (old new : BTreeSet ℕ) (k base first : ℕ) → Updates nat_cmp old new k true → ((i : ℕ) → first ≤ base + i → base + i < k → contains nat_cmp old (base + i) ≡ true) → (i : ℕ) → first ≤ base + i → base + i < k + 1 → contains nat_cmp new (base + i) ≡ true
+insert_below old new k base first u waits i ge lt = elim (cases_eq (base + i) k) [
+  | inl eq ↦ ap (contains nat_cmp new) eq ∙ insert_has old new k u
+  | inr ne ↦ insert_keeps old new k u (base + i) (waits i ge (omega (arith, lt, ne)))
+]

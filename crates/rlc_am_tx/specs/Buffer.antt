@@ -55,3 +55,7 @@ pub record IsInOrder (l : List (Option Kept)) (unsent : ℕ) : Type 0 where
   pub below : (n : ℕ) → n < unsent → is_unsent (at l n) ≡ false
   pub from : (n : ℕ) → unsent ≤ n → n < length l → is_unsent (at l n) ≡ true
   pub above : (n : ℕ) (k : Kept) → unsent < n → at l n ≡ Some k → length k.flags ≡ 0
+
+-- a number has an SDU that has no byte at this place
+abbrev pub EndsBy : List (Option Kept) → ℕ → ℕ → Type 0
+EndsBy l n place = (k : Kept) × (at l n ≡ Some k) × (length k.sdu ≤ place)

@@ -1,6 +1,6 @@
 -- Flags of bytes: whether each is pending for retransmission.
 use Rattle.rlc_model.specs.Tx.{Kept}
-use Rattle.std.specs.Prelude.{◌≡◌, ◌⊎◌, ◌↔◌, ℕ, ◌+◌, ◌<◌, ◌≤◌, Bool, true, false, List, length, slice_index_or, Option, Some, None, ◌==◌}
+use Rattle.std.specs.Prelude.{◌≡◌, ◌⊎◌, ◌↔◌, ℕ, ◌+◌, ◌<◌, Bool, true, false, List, length, slice_index_or, Option, Some, None, ◌==◌}
 
 -- the byte at this place is pending
 abbrev pub is_set : List Bool → ℕ → Bool

@@ -7,3 +7,7 @@ pub mod Giving
 pub mod Polling
 pub mod Sending
 pub mod Retransmitting
+pub mod Elements
+pub mod Acknowledging
+pub mod Beyond
+pub mod Hearing

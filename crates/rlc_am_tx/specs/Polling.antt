@@ -23,6 +23,11 @@ unpolled p fresh = record p { pdu_without_poll = p.pdu_without_poll + min fresh 
 abbrev pub expired : Polling → Polling
 expired p = record p { poll_owed = true; poll_retransmit_runs = false }
 
+-- t-PollRetransmit stops where POLL_SN is below `ack`, and nothing else changes
+pub data StopsBelow (old : Polling) (ack : ℕ) (new : Polling) : Type 0 where
+  stops : (h : ℕ) → old.poll_sn ≡ Some h → h < ack → new ≡ record old { poll_retransmit_runs = false } → StopsBelow old ack new
+  runs_on : ((h : ℕ) → old.poll_sn ≡ Some h → ack ≤ h) → new ≡ old → StopsBelow old ack new
+
 -- a transmitter with these SDUs and these variables of polling
 abbrev pub tx_with : SnSize → ℕ → List (Option Kept) → Polling → Tx
 tx_with size threshold kept p = record { size = size; poll_pdu = p.poll_pdu; poll_byte = p.poll_byte; max_retx_threshold = threshold; kept = kept; pdu_without_poll = p.pdu_without_poll; byte_without_poll = p.byte_without_poll; poll_sn = p.poll_sn; poll_owed = p.poll_owed; poll_retransmit_runs = p.poll_retransmit_runs }

@@ -1,23 +1,30 @@
 // The transmitting side of an RLC entity in acknowledged mode.
-ghost use Rattle.std.specs.Prelude.{◌≡◌, ◌+◌, ◌-◌, ◌<◌, ◌≤◌, ◌^◌, false, length, slice_index, IfOk, IfErr, OnErr};
+ghost use Rattle.std.specs.Prelude.{◌≡◌, ◌+◌, ◌-◌, ◌<◌, ◌≤◌, ◌^◌, ◌++◌, false, length, slice_index, vec_capacity, IfOk, IfErr, OnErr};
 ghost use Rattle.std.specs.List.{prefix_len};
-ghost use Rattle.std.specs.Option.{is_none};
+ghost use Rattle.std.specs.Option.{is_none, option_to_list};
 ghost use Rattle.std.specs.Bool.{MatchBool};
 ghost use Rattle.link_base.specs.SequenceNumbers.{window};
 ghost use Rattle.rlc_pdu.specs.Amd.{bytes_of};
 ghost use Rattle.rlc_model.specs.Pdu.{si_of};
 ghost use Rattle.rlc_model.specs.Tx.{empty_tx, tx_next, tx_next_ack, room, unconfirmed, header, Gives, Grants};
 ghost use Rattle.rlc_model.specs.Calls.{Bears, ExpiresPollAs};
+ghost use Rattle.rlc_status.specs.Format.{AllFit, StatusFits};
+ghost use Rattle.rlc_model.specs.Retransmission.{HearsStatus};
+ghost use Rattle.rlc_am_tx.specs.Beyond.{IsBeyondOf};
+ghost use Rattle.rlc_am_tx.specs.Hearing.{AcknowledgesAs};
 ghost use Rattle.rlc_am_tx.specs.Giving.{GivesBack};
 ghost use Rattle.rlc_am_tx.specs.Pieces.{IsNextPiece, IsInside};
 ghost use Rattle.rlc_am_tx.specs.Sending.{piece_of, SendsPiece, HasPoll, AddsPoll};
 
+use crate::acknowledging::Acknowledged;
+use crate::beyond::is_beyond;
 use crate::buffer::TxBuffer;
 use crate::pieces::Piece;
 use crate::polling::Polling;
-use link_base::{Bytes, Expired, LocalId, Memory, SnSize, Tag};
-use rlc_model::TxGrant;
+use link_base::{Bytes, Expired, LocalId, Memory, NumberList, SnSize, Tag, near};
+use rlc_model::{StatusHeard, TxGrant};
 use rlc_pdu::{AmdView, Si, encode_amd};
+use rlc_status::Status;
 use std::alloc::Global;
 use std::marker::Model;
 use thiserror::Error;
@@ -186,6 +193,71 @@ impl AmTx {
         Expired::Marked(number)
     }
 
+    /// Hears a STATUS PDU (TS 38.322 clauses 5.2.3.1.1, 5.3.2, 5.3.3.3 and 5.3.3.4). It needs TX_Next below 2^62.
+    ///
+    /// `Beyond` comes exactly where the PDU speaks of what was not sent, and `Old` exactly where it doesn't and its
+    /// ACK_SN stands for a number below TX_Next_Ack. After an `Err` the transmitter is as it was.
+    pub fn hear_status(&mut self, status: &Status) -> Result<StatusHeard, Memory>
+        requires fits { StatusFits self.old.size status.now }
+        requires small { tx_next self.old < 2 ^ 62 }
+        ensures ok { IfOk result (λ answer. HearsStatus self.old status.now answer self.new) }
+        ensures err { OnErr result (self.new ≡ self.old) }
+    {
+        let sent = self.buffer.sent_count();
+        let next = self.buffer.next_ack();
+        let Some(ack) = near(status.ack, next + 1, self.size) else {
+            return Ok(StatusHeard::Beyond {
+                ack: status.ack,
+                sent,
+            });
+        };
+        if is_beyond(&self.buffer, self.size, ack, status.nacks.as_slice()) {
+            return Ok(StatusHeard::Beyond {
+                ack: status.ack,
+                sent,
+            });
+        }
+        if ack < next {
+            return Ok(StatusHeard::Old { ack, next });
+        }
+        let answer = self.acknowledge(ack, status)?;
+        Ok(answer)
+    }
+
+    // Carries out a STATUS PDU whose ACK_SN stands for `ack`. After an `Err` nothing changed.
+    fn acknowledge(&mut self, ack: u64, status: &Status) -> Result<StatusHeard, Memory>
+        requires fits { AllFit self.old.size status.now.nacks }
+        requires from { tx_next_ack self.old ≤ ack }
+        requires within { ack ≤ tx_next self.old }
+        requires fine { IsBeyondOf self.old.size self.old.kept status.now.nacks ack → ⊥ }
+        ensures ok { IfOk result (λ answer. AcknowledgesAs self.old ack status.now answer self.new) }
+        ensures err { OnErr result (self.new ≡ self.old) }
+    {
+        let Some(changes) = self.changes.checked_add(2) else {
+            return Err(Memory);
+        };
+        let Acknowledged { tags, mut marks } = self.buffer.acknowledge(
+            self.size,
+            ack,
+            status.nacks.as_slice(),
+            self.max_retx_threshold,
+        )?;
+        self.changes = changes;
+        self.polling.stop_below(ack);
+        if !self.polling.poll_owed {
+            return Ok(StatusHeard::Acked {
+                tags,
+                marks: NumberList::from_vec(marks),
+            });
+        }
+        let lowest = self.buffer.retransmit_lowest(self.max_retx_threshold);
+        add_mark(&mut marks, lowest);
+        Ok(StatusHeard::Acked {
+            tags,
+            marks: NumberList::from_vec(marks),
+        })
+    }
+
     // Sends the bytes of a piece before `end`, and answers the PDU. After an `Err` nothing changed.
     fn send(&mut self, piece: &Piece, end: usize) -> Result<Bytes, Memory>
         requires next { IsNextPiece self.old.kept piece.now }
@@ -295,4 +367,16 @@ fn with_poll(bytes: Bytes) -> Bytes
     let mut octets = bytes.into_vec();
     octets[0] += 0x40;
     Bytes::from_vec(octets)
+}
+
+// Adds a number, where there is one, for which there is room.
+fn add_mark(marks: &mut Vec<u64>, number: Option<u64>)
+    requires { length marks.old.items < vec_capacity marks.old }
+    ensures { marks.new.items ≡ marks.old.items ++ option_to_list number }
+{
+    if let Some(number) = number {
+        let Ok(()) = marks.push(number) else {
+            unreachable!()
+        };
+    }
 }

@@ -1,17 +1,25 @@
 // The SDUs that are not confirmed, by number.
-ghost use Rattle.std.specs.Prelude.{◌≡◌, ◌≢◌, ◌-◌, ◌+◌, ◌<◌, ◌≤◌, ◌^◌, ℕ, [], ◌∷◌, ◌++◌, None, Some, not, length, take, drop, count_by, is_some, IfSome, IfNone, IfOk, OnOk, OnErr, IfErr};
+ghost use Rattle.std.specs.Prelude.{◌≡◌, ◌≢◌, ◌-◌, ◌+◌, ◌<◌, ◌≤◌, ◌^◌, ℕ, [], ◌∷◌, ◌++◌, None, Some, false, vec_capacity, not, length, take, drop, count_by, is_some, IfSome, IfNone, IfOk, OnOk, OnErr, IfErr};
 ghost use Rattle.std.specs.List.{prefix_len};
 ghost use Rattle.std.specs.Option.{is_none};
 ghost use Rattle.std.specs.Bool.{MatchBool};
 ghost use Rattle.rlc_model.specs.Tx.{is_unsent};
-ghost use Rattle.rlc_am_tx.specs.Buffer.{at, BearsOne, BearsIn, SomePending, NonePending, SomeUnsent, NoneUnsent, IsSentCountOf};
+ghost use Rattle.rlc_am_tx.specs.Buffer.{at, BearsOne, BearsIn, SomePending, NonePending, SomeUnsent, NoneUnsent, IsSentCountOf, IsInOrder, EndsBy};
 ghost use Rattle.rlc_am_tx.specs.Flags.{increments, retx_of};
 ghost use Rattle.rlc_am_tx.specs.Retransmitting.{Retransmits, RetransmitsLowestOf};
+ghost use Rattle.rlc_status.specs.Format.{AllFit};
+ghost use Rattle.rlc_status.specs.Says.{Some_has, NamesNumber};
+ghost use Rattle.rlc_am_tx.specs.Elements.{PassesAck};
+ghost use Rattle.rlc_am_tx.specs.Acknowledging.{UpdatesAll};
 ghost use Rattle.rlc_am_tx.specs.Pieces.{IsUnsentPiece, IsNextPiece, IsInside, MarksSent, MarksSlot, MovesUnsent, sdu_of, sent_of};
 
+use crate::acknowledging::{Acknowledged, confirm_unnamed, count_named, pend_all, pop_confirmed};
+use crate::elements::mention_all;
 use crate::pieces::{Piece, lowest_pending};
 use crate::slot::Slot;
-use link_base::{Bytes, LocalId, Memory, Tag};
+use link_base::{Bytes, LocalId, Memory, SnSize, Tag};
+use rlc_model::TagList;
+use rlc_status::Nack;
 use std::alloc::Global;
 use std::collections::{BTreeSet, VecDeque};
 use std::marker::Model;
@@ -220,6 +228,77 @@ impl TxBuffer {
         marked.then_some(self.next_ack)
     }
 
+    /// The lowest number with bytes that were never sent, or TX_Next.
+    pub(crate) fn unsent(&self) -> u64
+        ensures { IsInOrder self.now result }
+    {
+        self.unsent
+    }
+
+    /// Whether a number has an SDU that has no byte at this place.
+    pub(crate) fn is_past(&self, number: u64, place: usize) -> bool
+        ensures { MatchBool result (EndsBy self.now number place) (EndsBy self.now number place → ⊥) }
+    {
+        match self.slot(number) {
+            Some(slot) => slot.sdu_len() <= place,
+            None => false,
+        }
+    }
+
+    /// Carries out a STATUS PDU whose ACK_SN stands for `ack` (TS 38.322 clauses 5.2.3.1.1 and 5.3.2). All memory is
+    /// taken before anything changes.
+    pub(crate) fn acknowledge(
+        &mut self,
+        size: SnSize,
+        ack: u64,
+        nacks: &[Nack],
+        threshold: u8,
+    ) -> Result<Acknowledged, Memory>
+        requires fits { AllFit size nacks.now }
+        requires from { prefix_len is_none self.old ≤ ack }
+        requires within { ack ≤ length self.old }
+        requires below { Some_has (PassesAck size ack) nacks.now → ⊥ }
+        requires sent { (n : ℕ) → n < ack → (Some_has (λ e. NamesNumber size ack e n) nacks.now → ⊥) → is_unsent (at self.old n) ≡ false }
+        requires counts { (n : ℕ) → increments (retx_of (at self.old n)) < 2 ^ 64 }
+        ensures ok { IfOk result (λ done. UpdatesAll size threshold ack nacks.now self.old done.tags done.marks.items self.new) }
+        ensures counts { OnOk result ((n : ℕ) → increments (retx_of (at self.new n)) ≤ increments (retx_of (at self.old n)) + 1) }
+        ensures room { IfOk result (λ done. length done.marks.items < vec_capacity done.marks) }
+        ensures err { OnErr result (self.new ≡ self.old) }
+    {
+        let count = (ack - self.next_ack) as usize;
+        let mut mentions = Vec::new(self.alloc);
+        mention_all(
+            &mut mentions,
+            &mut self.waiting,
+            self.next_ack,
+            size,
+            ack,
+            nacks,
+        )?;
+        let mut named_flags = vec![in self.alloc; false; count]?;
+        let mut fresh_flags = vec![in self.alloc; false; count]?;
+        let mut tags = Vec::with_capacity(self.alloc, count)?;
+        let mut marks = Vec::with_capacity(self.alloc, count + 1)?;
+        let named = named_flags.as_mut_slice();
+        let fresh = fresh_flags.as_mut_slice();
+        pend_all(&mut self.slots, named, fresh, &mentions);
+        confirm_unnamed(&mut self.slots, named, &mut tags);
+        count_named(
+            &mut self.slots,
+            named,
+            fresh,
+            threshold,
+            self.next_ack,
+            &mut marks,
+        );
+        self.unconfirmed -= tags.len() as u64;
+        self.next_ack += pop_confirmed(&mut self.slots) as u64;
+        Ok(Acknowledged {
+            tags: TagList::from_vec(tags),
+            marks,
+        })
+    }
+
     fn slot(&self, number: u64) -> Option<&Slot>
         ensures some { IfSome result (λ slot. at self.now number ≡ Some slot.now) }
         ensures none { IfNone result (at self.now number ≡ None) }
@@ -289,9 +368,7 @@ fn retransmit_slot(slot: &mut Option<Slot>, threshold: u8) -> bool
     requires count { increments (retx_of slot.old) < 2 ^ 64 }
     ensures { Retransmits threshold (λ p. Unit {0}) slot.old result slot.new }
 {
-    let Some(slot) = slot else {
-        unreachable!()
-    };
+    let Some(slot) = slot else { unreachable!() };
     let fresh = slot.pend(0, None);
     slot.count(fresh, threshold)
 }

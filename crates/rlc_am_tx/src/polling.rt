@@ -17,7 +17,7 @@ pub(crate) struct Polling {
 }
 
 impl Polling {
-    ghost use Rattle.rlc_am_tx.specs.Polling.{IsDue, polled, unpolled, expired};
+    ghost use Rattle.rlc_am_tx.specs.Polling.{IsDue, polled, unpolled, expired, StopsBelow};
 
     pub(crate) fn new(poll_pdu: u32, poll_byte: u32) -> Self
         ensures { result ≡ record { poll_pdu = poll_pdu; poll_byte = poll_byte; pdu_without_poll = 0; byte_without_poll = 0; poll_sn = None; poll_owed = false; poll_retransmit_runs = false } }
@@ -75,5 +75,17 @@ impl Polling {
     {
         self.poll_owed = true;
         self.poll_retransmit_runs = false;
+    }
+
+    /// A STATUS PDU was carried out whose ACK_SN stands for `ack`: t-PollRetransmit stops where POLL_SN is below that
+    /// (TS 38.322 clause 5.3.3.3).
+    pub(crate) fn stop_below(&mut self, ack: u64)
+        ensures { StopsBelow self.old ack self.new }
+    {
+        if let Some(poll_sn) = self.poll_sn
+            && poll_sn < ack
+        {
+            self.poll_retransmit_runs = false;
+        }
     }
 }

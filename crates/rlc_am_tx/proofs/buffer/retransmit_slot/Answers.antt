@@ -1,8 +1,4 @@
-use Rattle.std.proofs.Common.{◌≡◌, ◌⊎◌, inl, inr, ◌↔◌, ℕ, ◌≤◌, true, Bool, List, length, get_or, Option, Some, refl, sym, ◌∙◌, ap, subst, arith}
-use Rattle.std.specs.Bool.{MatchBool}
-use Rattle.rlc_model.specs.Tx.{Kept}
-use Rattle.rlc_model.specs.Retransmission.{BecomesPending}
-use Rattle.rlc_am_tx.specs.Flags.{Pends, IsBefore, HasFresh, HasNoFresh, counted, comes_to}
+use Rattle.std.proofs.Common.{refl}
 use Rattle.rlc_am_tx.proofs.Retransmitted.{all_pend}
 use Rattle.rlc_am_tx.proofs.buffer.retransmit_slot.Goals as goal
 

@@ -1,7 +1,7 @@
-use Rattle.std.proofs.Common.{◌≡◌, ℕ, true, List, [], ◌∷◌, Option, Some, None, refl, sym, ◌∙◌, ap, subst}
+use Rattle.std.proofs.Common.{[], ◌∷◌, refl, sym, subst}
 use Rattle.std.specs.Option.{option_to_list}
-use Rattle.rlc_model.specs.Tx.{Tx, Kept}
-use Rattle.rlc_model.specs.Retransmission.{ExpiresPoll, RetransmitsLowest}
+use Rattle.rlc_model.specs.Tx.{Tx}
+use Rattle.rlc_model.specs.Retransmission.{ExpiresPoll}
 use Rattle.rlc_am_tx.specs.declared.polling.Polling.{Polling}
 use Rattle.rlc_am_tx.specs.Polling.{tx_with, expired}
 use Rattle.rlc_am_tx.specs.Transmitter.{tx_of, IsBounded}

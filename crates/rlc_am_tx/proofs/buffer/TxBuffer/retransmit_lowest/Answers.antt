@@ -1,4 +1,4 @@
-use Rattle.std.proofs.Common.{◌≡◌, ◌⊎◌, inl, inr, ℕ, ◌<◌, ◌^◌, true, cond, get_or, set, length, List, Option, Some, None, refl, sym, ◌∙◌, ap, subst, arith}
+use Rattle.std.proofs.Common.{◌≡◌, inr, ℕ, ◌<◌, ◌^◌, true, set, length, List, Option, None, sym, ◌∙◌, ap, subst, arith}
 use Rattle.std.specs.List.{prefix_len}
 use Rattle.std.specs.Bool.{then_some}
 use Rattle.std.specs.Option.{is_none}
@@ -11,7 +11,7 @@ use Rattle.rlc_am_tx.specs.Buffer.{at, kept_from, NonePending, NoneUnsent}
 use Rattle.rlc_am_tx.specs.Flags.{increments, retx_of}
 use Rattle.rlc_am_tx.specs.Retransmitting.{RetransmitsLowestOf}
 use Rattle.rlc_am_tx.proofs.Numbers.{kept_slot}
-use Rattle.rlc_am_tx.proofs.Retransmitted.{lowest_stays, first_kept, first_tidy, first_retransmits, no_slots}
+use Rattle.rlc_am_tx.proofs.Retransmitted.{lowest_stays, first_tidy, first_retransmits, no_slots}
 use Rattle.rlc_am_tx.proofs.buffer.TxBuffer.retransmit_lowest.Goals as goal
 
 pub returns-then-is_empty : goal.returns-then-is_empty
@@ -43,6 +43,6 @@ returns c =
     let now : kept_from a.next_ack a.slots.items ≡ c.args.self.now = c.self.view_is ∙ c.if-pending_waits.ensures.same in
     let new = kept_from a.next_ack (set a.slots.items 0 c.retransmit_slot-marked.new.slot) in
     let r = first_retransmits a.next_ack a.slots.items a.unconfirmed a.unsent (λ n. contains nat_cmp a.waiting n ≡ true) c.args.threshold c.retransmit_slot-marked.result c.index_mut.result.now c.retransmit_slot-marked.new.slot c.self.invariant some c.index_mut.ensures.value c.retransmit_slot-marked.ensures
-        (subst NonePending (sym now) c.if-pending_waits.ensures.waits) (subst NoneUnsent (sym now) c.if-unsent_waits.ensures) in
+    (subst NonePending (sym now) c.if-pending_waits.ensures.waits) (subst NoneUnsent (sym now) c.if-unsent_waits.ensures) in
     subst (λ (o : Option ℕ). RetransmitsLowestOf c.args.threshold c.args.self.now o new) (sym c.then_some.ensures)
     (subst (λ (l : List (Option Kept)). RetransmitsLowestOf c.args.threshold l (then_some c.retransmit_slot-marked.result a.next_ack) new) now r)
