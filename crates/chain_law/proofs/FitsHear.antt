@@ -1,5 +1,5 @@
--- A PDU on the air is heard.
-use Rattle.std.proofs.Common.{◌≡◌, ◌≢◌, ℕ, ◌+◌, ◌<◌, true, false, List, [], ◌++◌, length, get_or, take, Option, refl, sym, ◌∙◌, ap, subst, arith, inl, inr, append-nil}
+-- A data PDU on the air is heard.
+use Rattle.std.proofs.Common.{◌≡◌, ◌≢◌, ℕ, ◌+◌, ◌<◌, true, false, List, [], ◌++◌, length, get_or, take, Option, None, refl, sym, ◌∙◌, ap, subst, arith, inl, inr, append-nil}
 use Rattle.link_base.specs.declared.names.Key.{Key}
 use Rattle.link_base.specs.declared.names.SnSize.TheVariants.{S12}
 use Rattle.link_base.specs.SequenceNumbers.{Near}
@@ -14,15 +14,16 @@ use Rattle.rlc_law.proofs.Safety.{none_outside}
 use Rattle.script_text.specs.declared.event.Event.{Event}
 use Rattle.script_text.specs.declared.reply.Reply.{Reply}
 use Rattle.script_text.specs.declared.reply.Reply.TheVariants.{OkUp, OkWaiting, OkOld, OkTwice}
-use Rattle.chain_model.specs.Air.{AirEntry, is_delivery}
+use Rattle.rlc_model.specs.declared.hop.Pdu.{Pdu}
+use Rattle.chain_model.specs.Air.{is_delivery}
 use Rattle.chain_model.specs.Chain.{Chain}
-use Rattle.chain_model.specs.Steps.{IsKey, shown, HearsCount, HearsSdu, Passes, HearsPdu, pdcp_pdu}
-use Rattle.chain_law.specs.Fits.{FitsHop, IsSent, IsPassed}
+use Rattle.chain_model.specs.Steps.{IsKey, shown, HearsCount, HearsSdu, Passes, HearsData, pdcp_pdu, air_refusal}
+use Rattle.chain_law.specs.Fits.{FitsHop, IsSentData, IsPassed}
 use Rattle.chain_law.specs.Laws.{is_conflict}
-use Rattle.chain_law.proofs.FitsFacts.{one_sdu, hop_heard, fresh, hears_hop, heard_reaches, completes_accepted}
+use Rattle.chain_law.proofs.FitsFacts.{one_sdu, hop_heard, fresh, hears_hop, heard_reaches, completes_accepted, completes_near}
 use Rattle.chain_law.proofs.FitsPassed.{stores_same, polls_same, passed_same, not_passed, passed_waits, goes_up_are, passed_up}
 
--- what a PDU that is heard leaves: the hop's receiver has heard it, and the SDUs that are shown are the next ones of those accepted
+-- what a data PDU that is heard leaves: the hop's receiver has heard it, and the SDUs that are shown are the next ones of those accepted
 pub record Leaves (c : Chain) (hop : Hop) (made : Data) (events : List Event) (reply : Reply) (new : Chain) : Type 0 where
   pub answer : Heard
   pub rx : Rx
@@ -38,12 +39,12 @@ pub record Leaves (c : Chain) (hop : Hop) (made : Data) (events : List Event) (r
   pub shows : events ≡ shown key sdus
   pub are : take c.rx_deliv c.accepted ++ sdus ≡ take rx_deliv c.accepted
 
-module _ (c : Chain) (hop : Hop) (f : FitsHop c hop) (pdu : AirEntry) (s : IsSent c.table hop.pdus pdu) (events : List Event) (reply : Reply) (new : Chain) (h : HearsPdu c pdu.bytes events reply new) where
+module _ (c : Chain) (hop : Hop) (f : FitsHop c hop) (pdu : Pdu) (s : IsSentData c.table hop.pdus pdu) (none : air_refusal c pdu ≡ None) (events : List Event) (reply : Reply) (new : Chain) (h : HearsData c pdu.bytes events reply new) where
   -- the chain that is left fits
   left_fits : (answer : Heard) → Hears c.rx h.pdu answer h.rx → (stored : List (Option (List ℕ))) (rx_deliv : ℕ) → IsPassed c.accepted h.rx stored rx_deliv
       → FitsHop (record c { rx = h.rx; stored = stored; rx_deliv = rx_deliv }) (hop_heard hop s.made answer h.rx)
   left_fits answer hears stored rx_deliv passed = record {
-    reaches = heard_reaches c hop f pdu s h.pdu answer h.rx h.reads hears;
+    reaches = heard_reaches c hop f pdu s h.pdu answer h.rx none h.reads hears;
     tx = f.tx;
     rx = refl;
     size = f.size;
@@ -55,7 +56,7 @@ module _ (c : Chain) (hop : Hop) (f : FitsHop c hop) (pdu : AirEntry) (s : IsSen
   -- nothing is shown
   leaves_still : (answer : Heard) → Hears c.rx h.pdu answer h.rx → is_delivery reply ≡ true → is_conflict reply ≡ false → (stored : List (Option (List ℕ))) → IsPassed c.accepted h.rx stored c.rx_deliv → events ≡ []
       → new ≡ record c { rx = h.rx; stored = stored } → Leaves c hop s.made events reply new
-  leaves_still answer hears said agrees stored passed none is = record {
+  leaves_still answer hears said agrees stored passed quiet is = record {
     answer = answer;
     rx = h.rx;
     stored = stored;
@@ -67,7 +68,7 @@ module _ (c : Chain) (hop : Hop) (f : FitsHop c hop) (pdu : AirEntry) (s : IsSen
     key = h.key;
     its_key = h.its_key;
     sdus = [];
-    shows = none;
+    shows = quiet;
     are = append-nil _;
   }
 
@@ -79,7 +80,7 @@ module _ (c : Chain) (hop : Hop) (f : FitsHop c hop) (pdu : AirEntry) (s : IsSen
 
     -- and is an SDU accepted
     its_sdu : (x < length c.accepted) × (pdu_bytes ≡ pdcp_pdu x (get_or c.accepted x []))
-    its_sdu = completes_accepted c hop f pdu s h.pdu x pdu_bytes h.rx h.reads hears
+    its_sdu = completes_accepted c hop f pdu s h.pdu x pdu_bytes h.rx none h.reads hears
 
     -- which is neither old nor twice
     hears_count : (said : Reply) → reply ≡ said → HearsCount (record c { rx = h.rx }) h.key x (get_or c.accepted x []) events said new → Leaves c hop s.made events reply new
@@ -104,29 +105,25 @@ module _ (c : Chain) (hop : Hop) (f : FitsHop c hop) (pdu : AirEntry) (s : IsSen
     }
     hears_count said e y = absurd y
 
-    -- it lies near RX_DELIV
-    near_deliv : Near S12 x c.rx_deliv x
-    near_deliv = record { same = omega (arith, its_sdu.0, f.given.few); low = omega (arith, f.passed.within, f.given.few); high = omega (arith, its_sdu.0, f.given.few) }
-
     -- so its COUNT is the number
     hears_sdu : (sn : ℕ) (sdu : List ℕ) → IsPdcp S12 (Sdu sn sdu) pdu_bytes → HearsSdu (record c { rx = h.rx }) h.key sn sdu events reply new → Leaves c hop s.made events reply new
     hears_sdu sn sdu is y =
-        let one = one_sdu x sn (get_or c.accepted x []) sdu (omega (arith, its_sdu.0, f.given.few)) (subst (IsPdcp S12 (Sdu sn sdu)) its_sdu.1 is) in
-        let near : Near S12 sn c.rx_deliv x = subst (λ (n : ℕ). Near S12 n c.rx_deliv x) (sym one.0) near_deliv in
+        let one = one_sdu x sn (get_or c.accepted x []) sdu (subst (IsPdcp S12 (Sdu sn sdu)) its_sdu.1 is) in
+        let near : Near S12 sn c.rx_deliv x = subst (λ (n : ℕ). Near S12 n c.rx_deliv x) (sym one.0) (completes_near c hop f h.pdu x pdu_bytes h.rx its_sdu.0 hears).2 in
         elim y [
           | inl found ↦
               let count : found.0 ≡ x = near_one S12 sn c.rx_deliv found.0 x found.1 near in
               hears_count reply refl (subst (λ (n : ℕ). HearsCount (record c { rx = h.rx }) h.key n (get_or c.accepted x []) events reply new) count
               (subst (λ (l : List ℕ). HearsCount (record c { rx = h.rx }) h.key found.0 l events reply new) one.1 found.2))
-          | inr none ↦ absurd (none.0 x near)
+          | inr no_count ↦ absurd (no_count.0 x near)
         ]
 
   -- what each answer of the RLC receiver leaves
   passes : (answer : Heard) → Hears c.rx h.pdu answer h.rx → Passes (record c { rx = h.rx }) h.key answer events reply new → Leaves c hop s.made events reply new
   passes Stored hears y = leaves_still Stored hears (ap is_delivery y.0) (ap is_conflict y.0) c.stored (passed_same c.accepted c.rx c.stored c.rx_deliv f.passed h.rx (stores_same c.rx hears.0 h.pdu h.rx hears.2 hears.4)) y.1 y.2
   passes Repeat hears y = leaves_still Repeat hears (ap is_delivery y.0) (ap is_conflict y.0) c.stored (passed_same c.accepted c.rx c.stored c.rx_deliv f.passed h.rx (polls_same c.rx h.pdu h.rx hears.3)) y.1 y.2
-  passes Outside hears y = absurd ((none_outside hop f.reaches s.made s.among (fresh c hop f s.made.number) h.rx).0 (hears_hop c hop f pdu s h.pdu Outside h.rx h.reads hears))
-  passes Conflict hears y = absurd ((none_outside hop f.reaches s.made s.among (fresh c hop f s.made.number) h.rx).1 (hears_hop c hop f pdu s h.pdu Conflict h.rx h.reads hears))
+  passes Outside hears y = absurd ((none_outside hop f.reaches s.made s.among (fresh c hop f pdu s none) h.rx).0 (hears_hop c hop f pdu s h.pdu Outside h.rx h.reads hears))
+  passes Conflict hears y = absurd ((none_outside hop f.reaches s.made s.among (fresh c hop f pdu s none) h.rx).1 (hears_hop c hop f pdu s h.pdu Conflict h.rx h.reads hears))
   passes (Complete x sdu) hears y = hears_sdu x sdu hears y.0 y.1 y.2 y.3
 
   -- what a PDU that is heard leaves

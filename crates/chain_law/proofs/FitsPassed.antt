@@ -26,6 +26,10 @@ stores_same old x v new first stores n = elim (cases_eq n x) [
 pub polls_same : (old : Rx) (v : Amd) (new : Rx) → PollsAtOnce old v new → (n : ℕ) → (got new n ≡ Done) ↔ (got old n ≡ Done)
 polls_same old v new polls n = let same : got new n ≡ got old n = ap (λ (r : Rx). got r n) polls in (λ now. sym same ∙ now, λ before. same ∙ before)
 
+-- nor does a step after which the same is got of each number
+pub got_same : (old new : Rx) → ((n : ℕ) → got new n ≡ got old n) → (n : ℕ) → (got new n ≡ Done) ↔ (got old n ≡ Done)
+got_same old new same n = (λ now. sym (same n) ∙ now, λ before. same n ∙ before)
+
 module _ (accepted : List (List ℕ)) (rx : Rx) (stored : List (Option (List ℕ))) (rx_deliv : ℕ) (p : IsPassed accepted rx stored rx_deliv) where
   -- a receiver that has completed the same numbers
   pub passed_same : (new : Rx) → ((n : ℕ) → (got new n ≡ Done) ↔ (got rx n ≡ Done)) → IsPassed accepted new stored rx_deliv

@@ -1,158 +1,195 @@
 -- A history tells of each chain that it leads to.
-use Rattle.std.proofs.Common.{◌≡◌, ℕ, ◌+◌, ◌-◌, Bool, true, false, is_some, unwrap_or, List, [], ◌∷◌, cond, Option, Some, None, refl, sym, ◌∙◌, ap, subst, arith, inl, inr, length, length-take-le}
+use Rattle.std.proofs.Common.{◌≡◌, ℕ, ◌+◌, ◌-◌, Bool, true, false, List, [], ◌∷◌, length, Option, Some, None, refl, sym, ◌∙◌, ap, subst, arith, inl, inr}
 use Rattle.std.proofs.lemmas.Bool.{false≢true}
 use Rattle.link_base.specs.declared.names.Key.{Key}
 use Rattle.link_base.specs.declared.names.PortName.{PortName}
 use Rattle.link_base.specs.declared.names.Way.{Way}
-use Rattle.rlc_model.specs.Tx.{Tx, Grants}
+use Rattle.link_base.specs.declared.names.Way.TheVariants.{Ul, Dl}
+use Rattle.rlc_model.specs.Tx.{Grants}
+use Rattle.rlc_model.specs.Made.{Makes}
 use Rattle.rlc_model.specs.declared.transmitter.TxGrant.{TxGrant}
 use Rattle.rlc_model.specs.declared.transmitter.TxGrant.TheVariants as grant
-use Rattle.rlc_law.specs.Hop.{Hop, start}
-use Rattle.script_text.specs.declared.stage.BearerTable.{BearerTable}
-use Rattle.script_text.specs.declared.stage.BearerTable.TheVariants.{Empty}
-use Rattle.script_text.specs.declared.stage.ScriptStage.TheVariants.{Start}
+use Rattle.rlc_model.specs.declared.receiver.Made.{Made}
+use Rattle.rlc_model.specs.declared.receiver.Made.TheVariants as made
+use Rattle.rlc_law.specs.Hop.{Hop}
+use Rattle.script_text.specs.declared.stage.ScriptStage.{ScriptStage}
 use Rattle.script_text.specs.declared.line.Line.{Line}
-use Rattle.script_text.specs.declared.line.Line.TheVariants.{Version, Remote, Bearer, Go, Submit, Grant, Deliver, Repeat, Lose, End}
+use Rattle.script_text.specs.declared.line.Line.TheVariants.{Version, Set, Remote, Bearer, Go, Submit, Grant, Deliver, Repeat, Lose, Expire, End}
 use Rattle.script_text.specs.declared.event.Event.{Event}
 use Rattle.script_text.specs.declared.reply.Reply.{Reply}
-use Rattle.script_text.specs.declared.reply.Reply.TheVariants.{Ok, NoAir}
-use Rattle.script_text.specs.Stages.{stage_after, table_of}
-use Rattle.script_text.specs.History.{Entry, stage_of}
-use Rattle.chain_model.specs.Air.{AirEntry, air_entry, is_delivery}
-use Rattle.chain_model.specs.Book.{submitted, handed}
-use Rattle.chain_model.specs.Chain.{Chain, direct_size, pdu_of}
-use Rattle.chain_model.specs.Steps.{IsKey, Accepts, Granted, Sends, HearsTicket, Step, LeadsTo, without, submit_refusal, grant_refusal}
-use Rattle.chain_law.specs.Fits.{Fits}
+use Rattle.script_text.specs.declared.reply.Reply.TheVariants.{Ok}
+use Rattle.script_text.specs.Stages.{first_stage, is_past_go}
+use Rattle.script_text.specs.History.{Entry}
+use Rattle.chain_model.specs.Tables.{table_of, contents, has_port}
+use Rattle.rlc_model.specs.declared.hop.Pdu.{Pdu}
+use Rattle.chain_model.specs.Air.{air_entry, entry_after}
+use Rattle.chain_model.specs.Heard.{delivers}
+use Rattle.chain_model.specs.Book.{submitted, accepted, handed, confirmed}
+use Rattle.chain_model.specs.Chain.{Chain, pdu_of}
+use Rattle.chain_model.specs.Chain as chain
+use Rattle.chain_model.specs.Steps.{Stands, IsKey, Accepts, Granted, GrantedData, GrantedReport, Sends, Reports, HearsPdu, HearsEntry, Loses, Expires, Step, LeadsTo, without, submit_refusal, grant_refusal, expire_refusal, air_refusal}
+use Rattle.chain_law.specs.Fits.{Fits, IsSent}
 use Rattle.chain_law.specs.Laws.{NeverConflicts, is_conflict}
-use Rattle.chain_law.proofs.FitsFacts.{pdu_at}
+use Rattle.chain_law.proofs.FitsFacts.{pdu_at, sent_data, sent_report}
 use Rattle.chain_law.proofs.FitsHear.{hears_leaves}
+use Rattle.chain_law.proofs.FitsTold.{told_leaves}
 use Rattle.chain_law.proofs.FitsMore.{grant_free}
 use Rattle.chain_law.proofs.FitsSteps.{unless_cases}
-use Rattle.chain_law.proofs.Tells.{Tells}
-use Rattle.chain_law.proofs.TellsQuiet.{is_go, is_refusal, IsQuiet, submit_refused, grant_refused, refused_agrees, submit_quiet, grant_quiet, tells_quiet, tells_without, tells_nothing, tells_go}
-use Rattle.chain_law.proofs.TellsMore.{tells_accepted, tells_sent, IsHearing, deliver_hears, repeat_hears, tells_heard}
+use Rattle.chain_law.proofs.Staged.{is_go}
+use Rattle.chain_law.proofs.Tells.{Tells, entry, handed_many, tells_without}
+use Rattle.chain_law.proofs.TellsQuiet.{is_refusal, IsStill, submit_refused, grant_refused, expire_refused, air_refused, refused_agrees, refused_silent, submit_still, grant_still, tells_quiet, tells_nothing, tells_go}
+use Rattle.chain_law.proofs.TellsMore.{tells_accepted, tells_sent, tells_reported, IsHearing, deliver_hears, repeat_hears, tells_heard, tells_told}
+use Rattle.chain_law.proofs.TellsExpire.{tells_expired, says_agrees}
 
--- the entry of a line
-abbrev entry : Line → List Event → Reply → Entry
-entry line events reply = record { line = line; events = events; reply = reply }
+-- the history with one more entry tells of a chain, and its reply is no conflict
+pub record TellsMore (h : List Entry) (line : Line) (events : List Event) (reply : Reply) (stage : ScriptStage) (c : Chain) : Type 0 where
+  pub hop : Hop
+  pub tells : Tells (entry line events reply ∷ h) stage c hop
+  pub agrees : is_conflict reply ≡ false
 
--- the history with one more entry tells of a chain
-abbrev TellsMore : List Entry → Line → List Event → Reply → Chain → Type 0
-TellsMore h line events reply new = (hop : Hop) × Tells (entry line events reply ∷ h) new hop
+module _ (h : List Entry) (s t : ScriptStage) (old : Chain) (hop : Hop) (told : Tells h s old hop) (events : List Event) (reply : Reply) (new : Chain) where
+  -- the same, where the chain is seen in other terms
+  seen : (line : Line) (c : Chain) (next : Hop) → new ≡ c → Tells (entry line events reply ∷ h) t c next → is_conflict reply ≡ false → TellsMore h line events reply t new
+  seen line c next is x agrees = record { hop = next; tells = subst (λ (d : Chain). Tells (entry line events reply ∷ h) t d next) (sym is) x; agrees = agrees }
 
--- the same, where the chain is seen in other terms
-tells_as : (h : List Entry) (line : Line) (events : List Event) (reply : Reply) (c new : Chain) → new ≡ c → TellsMore h line events reply c → TellsMore h line events reply new
-tells_as h line events reply c new is t = subst (TellsMore h line events reply) (sym is) t
-
-module _ (h : List Entry) (old : Chain) (hop : Hop) (t : Tells h old hop) (events : List Event) (reply : Reply) (new : Chain) where
   -- a line that brings nothing about
-  same : (line : Line) → is_go line ≡ false → is_some (stage_after (stage_of h) line) ≡ true → IsQuiet line events reply → new ≡ old → TellsMore h line events reply new
-  same line other stands quiet is = tells_as h line events reply old new is (hop, tells_quiet h old hop line events reply t other stands quiet)
+  same : (line : Line) → is_go line ≡ false → Stands s line t → IsStill line reply → events ≡ [] → is_conflict reply ≡ false → new ≡ old → TellsMore h line events reply t new
+  same line other stands still none agrees is = seen line old hop is (tells_quiet h s t old hop line events reply told other stands still none) agrees
 
-  -- a grant that isn't refused
-  granted : (port : PortName) (way : Way) (n : ℕ) → is_some (stage_after (stage_of h) (Grant port way n)) ≡ true → events ≡ [] → grant_refusal old port ≡ None → (g : Granted old port way n reply new) (answer : TxGrant) → Grants old.tx n answer g.tx
-      → Sends old port way answer g.tx reply new → TellsMore h (Grant port way n) events reply new
-  granted port way n stands none free g (grant.Sent number bytes) x y =
-      tells_as h (Grant port way n) events reply _ new y.1
-      (_, tells_sent h old hop t port way n number bytes x.0 g.tx events reply (grant_free old port free) g.up x.1 y.0 stands none x.2)
-  granted port way n stands none free g grant.Idle x y = same (Grant port way n) refl stands (grant_quiet port way n events reply (ap is_refusal y.0) none) y.1
-  granted port way n stands none free g (grant.Small need) x y = same (Grant port way n) refl stands (grant_quiet port way n events reply (ap is_refusal y.0) none) y.1
+  -- a grant of the sending end
+  granted_data : (port : PortName) (n : ℕ) → Stands s (Grant port Ul n) t → events ≡ [] → has_port old.table port ≡ true → GrantedData old port n reply new → TellsMore h (Grant port Ul n) events reply t new
+  granted_data port n stands none there g = go g.answer g.grants g.sends
+    where
+      go : (answer : TxGrant) → Grants old.tx n answer g.tx → Sends old port answer g.tx reply new → TellsMore h (Grant port Ul n) events reply t new
+      go (grant.Sent number bytes) x y = seen (Grant port Ul n) _ _ y.1 (tells_sent h s t old hop told port n number bytes x.0 g.tx events reply stands there x.1 y.0 none x.2) (ap is_conflict y.0)
+      go grant.Idle x y = same (Grant port Ul n) refl stands (grant_still port Ul n reply (ap is_refusal y.0)) none (ap is_conflict y.0) y.1
+      go (grant.Small need) x y = same (Grant port Ul n) refl stands (grant_still port Ul n reply (ap is_refusal y.0)) none (ap is_conflict y.0) y.1
 
-  -- a line that has the PDU of a ticket heard
-  hears_ticket : (line : Line) (ticket : ℕ) → IsHearing line ticket → is_some (stage_after (stage_of h) line) ≡ true → (o : Option AirEntry) → pdu_of old ticket ≡ o → HearsTicket old o events reply new → TellsMore h line events reply new
-  hears_ticket line ticket is stands None here x =
-      same line is.goes_on stands (record {
-        accepts = λ key. is.accepts key reply;
-        shows = x.0;
-        enters = is.enters reply;
-        silent = λ k d. false≢true (sym (ap is_delivery x.1) ∙ (is.only reply k d).0);
-      }) x.2
-  hears_ticket line ticket is stands (Some pdu) here x =
+  -- a grant of the receiving end
+  granted_report : (port : PortName) (n : ℕ) → Stands s (Grant port Dl n) t → events ≡ [] → has_port old.table port ≡ true → GrantedReport old port n reply new → TellsMore h (Grant port Dl n) events reply t new
+  granted_report port n stands none there g = go g.answer g.makes g.reports
+    where
+      go : (answer : Made) → Makes old.rx n answer g.rx → Reports old port answer g.rx reply new → TellsMore h (Grant port Dl n) events reply t new
+      go (made.Full status ack) x y = seen (Grant port Dl n) _ _ y.1 (tells_reported h s t old hop told port n ack status g.rx events reply stands there y.0 none x) (ap is_conflict y.0)
+      go (made.Small need) x y = same (Grant port Dl n) refl stands (grant_still port Dl n reply (ap is_refusal y.0)) none (ap is_conflict y.0) y.1
+
+  -- a grant
+  granted : (port : PortName) (way : Way) (n : ℕ) → Stands s (Grant port way n) t → events ≡ [] → has_port old.table port ≡ true → Granted way old port n reply new → TellsMore h (Grant port way n) events reply t new
+  granted port Ul n stands none there g = granted_data port n stands none there g
+  granted port Dl n stands none there (inl g) = granted_report port n stands none there g
+  granted port Dl n stands none there (inr idle) = same (Grant port Dl n) refl stands (grant_still port Dl n reply (ap is_refusal idle.1)) none (ap is_conflict idle.1) idle.2
+
+  -- a line that has no PDU heard
+  unheard : (line : Line) (ticket : ℕ) → IsHearing line ticket → Stands s line t → events ≡ [] → is_refusal reply ≡ true → new ≡ old → TellsMore h line events reply t new
+  unheard line ticket is stands none refused stays = same line is.goes_on stands
+      (record { accepts = λ key. is.accepts key reply; enters = is.enters reply; silent = λ k d. false≢true (sym (refused_silent reply refused) ∙ (is.only reply k d).0) }) none (refused_agrees reply refused) stays
+
+  -- a line that has a PDU heard
+  hears_pdu : (line : Line) (ticket : ℕ) → IsHearing line ticket → Stands s line t → (pdu : Pdu) → air_entry h ticket ≡ Some pdu → IsSent old.table hop pdu → air_refusal old pdu ≡ None → (b : Bool) → pdu.status ≡ b → HearsPdu b old pdu.bytes events reply new
+      → TellsMore h line events reply t new
+  hears_pdu line ticket is stands pdu shown sent fresh false is_data x =
+      let its = sent_data old hop pdu sent is_data in
+      let l = hears_leaves old hop told.fits pdu its fresh events reply new x in
+      seen line _ _ l.is (tells_heard h s t old hop told line ticket is stands pdu shown events reply new its l) l.agrees
+  hears_pdu line ticket is stands pdu shown sent fresh true report x =
+      let l = told_leaves old hop told.fits pdu (sent_report old hop pdu sent report) fresh events reply new x in
+      seen line _ _ l.is (tells_told h s t old hop told line ticket is stands pdu shown events reply new report l) l.agrees
+
+  -- a PDU that is lost
+  loses : (ticket : ℕ) → Stands s (Lose ticket) t → events ≡ [] → (o : Option Pdu) → Loses old o ticket reply new → TellsMore h (Lose ticket) events reply t new
+  loses ticket stands none None x = same (Lose ticket) refl stands still none (ap is_conflict x.0) x.1
+    where
+      still : IsStill (Lose ticket) reply
+      still = record { accepts = λ key. refl; enters = λ k before. refl; silent = λ k d. d }
+  loses ticket stands none (Some pdu) x = seen (Lose ticket) _ _ x.1 (tells_without (entry (Lose ticket) events reply ∷ h) t ticket old hop (tells_quiet h s t old hop (Lose ticket) events reply told refl stands still none)) (ap is_conflict x.0)
+    where
+      still : IsStill (Lose ticket) reply
+      still = record { accepts = λ key. refl; enters = λ k before. refl; silent = λ k d. d }
+
+-- what a line leaves of a PDU that it has heard changes nothing that a history tells
+abbrev LeavesAir : (Chain → Chain) → Type 0
+LeavesAir behind = (h : List Entry) (stage : ScriptStage) (c : Chain) (hop : Hop) → Tells h stage c hop → Tells h stage (behind c) hop
+
+-- a line that has the PDU of a ticket heard
+hears_entry : (h : List Entry) (s t : ScriptStage) (old : Chain) (hop : Hop) (told : Tells h s old hop) (events : List Event) (reply : Reply) (new : Chain) (behind : Chain → Chain) → LeavesAir behind → (line : Line) (ticket : ℕ) → IsHearing line ticket → Stands s line t
+    → (o : Option Pdu) → pdu_of old ticket ≡ o → HearsEntry old o events reply new behind → TellsMore h line events reply t new
+hears_entry h s t old hop told events reply new behind keeps line ticket is stands None here x = unheard h s t old hop told events reply new line ticket is stands x.0 (ap is_refusal x.1) x.2
+hears_entry h s t old hop told events reply new behind keeps line ticket is stands (Some pdu) here x = elim (unless_cases (air_refusal old pdu) old events reply new _ x) [
+  | inl r ↦ unheard h s t old hop told events reply new line ticket is stands r.2 (ap is_refusal r.3 ∙ air_refused old pdu r.0 r.1) r.4
+  | inr free ↦
       let at = pdu_at old ticket pdu here in
-      let s = t.fits.air (ticket - 1) pdu at.1 in
-      let l = hears_leaves old hop t.fits pdu s events reply new x in
       let place : ticket - 1 + 1 ≡ ticket = omega (arith, at.0) in
-      let shown : air_entry h ticket ≡ Some pdu = ap (air_entry h) (sym place) ∙ t.tickets.there (ticket - 1) pdu at.1 in
-      tells_as h line events reply _ new l.is (_, tells_heard h old hop t line ticket is pdu shown s events reply new l stands)
+      let shown : air_entry h ticket ≡ Some pdu = ap (air_entry h) (sym place) ∙ told.tickets.there (ticket - 1) pdu at.1 in
+      let m = hears_pdu h s t old hop told events reply free.1.0 line ticket is stands pdu shown (told.fits.air (ticket - 1) pdu at.1) free.0 pdu.status refl free.1.1 in
+      record { hop = m.hop; tells = subst (λ (d : Chain). Tells (entry line events reply ∷ h) t d m.hop) (sym free.1.2) (keeps (entry line events reply ∷ h) t free.1.0 m.hop m.tells); agrees = m.agrees }
+]
 
--- a PDU that is on the air no more
-without_tells : (h : List Entry) (c : Chain) (ticket : ℕ) (o : Option AirEntry) → (hop : Hop) × Tells h c hop → (hop : Hop) × Tells h (without c ticket o) hop
-without_tells h c ticket o t = (t.0, tells_without h c t.0 ticket o t.1)
+-- a line of the tables, and end
+plain : (h : List Entry) (s t : ScriptStage) (old : Chain) (hop : Hop) (told : Tells h s old hop) (line : Line) (events : List Event) (reply : Reply) (new : Chain) → is_go line ≡ false → Stands s line t → ((key : Key) → accepted key line reply ≡ [])
+    → ((k : ℕ) (before : Option Pdu) → entry_after line reply k before ≡ before) → ((k : ℕ) → delivers line reply k → ⊥) → (events ≡ []) × (reply ≡ Ok) × (new ≡ old) → TellsMore h line events reply t new
+plain h s t old hop told line events reply new other stands accepts enters silent x = same h s t old hop told events reply new line other stands (record { accepts = accepts; enters = enters; silent = silent }) x.0 (ap is_conflict x.1) x.2
 
 -- each step of a chain leaves one that the history with its entry tells of
-step_tells : (h : List Entry) (old : Chain) (hop : Hop) (t : Tells h old hop) (line : Line) (events : List Event) (reply : Reply) (new : Chain) → is_some (stage_after (stage_of h) line) ≡ true
-    → Step (table_of (unwrap_or (stage_after (stage_of h) line) Start)) old line events reply new → TellsMore h line events reply new
-step_tells h old hop t Go events reply new stands x = tells_as h Go events reply _ new x.2 (_, tells_go h old hop events reply _ t stands x.0 refl)
-step_tells h old hop t (Submit key sdu) events reply new stands x = elim (unless_cases (submit_refusal old key sdu) old reply new (Accepts old key sdu reply new) x.1) [
-  | inl r ↦ same h old hop t events reply new (Submit key sdu) refl stands (submit_quiet key sdu events reply (ap is_refusal r.2 ∙ submit_refused old key sdu r.0 r.1) x.0) r.3
-  | inr a ↦ tells_as h (Submit key sdu) events reply _ new a.1.is (_, tells_accepted h old hop t key sdu events reply new stands x.0 a.0 a.1)
+step_tells : (h : List Entry) (s t : ScriptStage) (old : Chain) (hop : Hop) (told : Tells h s old hop) (line : Line) (events : List Event) (reply : Reply) (new : Chain) → Stands s line t → Step (table_of (contents t)) old line events reply new
+    → TellsMore h line events reply t new
+step_tells h s t old hop told Go events reply new stands x =
+    let m = tells_go h s t old hop events reply told stands x.0 in
+    seen h s t old hop told events reply new Go _ m.0 x.2 m.1 (ap is_conflict x.1)
+step_tells h s t old hop told (Submit key sdu) events reply new stands x = elim (unless_cases (submit_refusal old key sdu) old events reply new (Accepts old key sdu events reply new) x) [
+  | inl r ↦
+      let refused : is_refusal reply ≡ true = ap is_refusal r.3 ∙ submit_refused old key sdu r.0 r.1 in
+      same h s t old hop told events reply new (Submit key sdu) refl stands (submit_still key sdu reply refused) r.2 (refused_agrees reply refused) r.4
+  | inr a ↦ seen h s t old hop told events reply new (Submit key sdu) _ _ a.1.is (tells_accepted h s t old hop told key sdu events reply new stands a.0 a.1) (ap is_conflict a.1.says)
 ]
-step_tells h old hop t (Grant port way n) events reply new stands x = elim (unless_cases (grant_refusal old port) old reply new (Granted old port way n reply new) x.1) [
-  | inl r ↦ same h old hop t events reply new (Grant port way n) refl stands (grant_quiet port way n events reply (ap is_refusal r.2 ∙ grant_refused old port r.0 r.1) x.0) r.3
-  | inr g ↦ granted h old hop t events reply new port way n stands x.0 g.0 g.1 g.1.answer g.1.grants g.1.sends
+step_tells h s t old hop told (Grant port way n) events reply new stands x = elim (unless_cases (grant_refusal old port) old events reply new ((events ≡ []) × Granted way old port n reply new) x) [
+  | inl r ↦
+      let refused : is_refusal reply ≡ true = ap is_refusal r.3 ∙ grant_refused old port r.0 r.1 in
+      same h s t old hop told events reply new (Grant port way n) refl stands (grant_still port way n reply refused) r.2 (refused_agrees reply refused) r.4
+  | inr g ↦ granted h s t old hop told events reply new port way n stands g.1.0 (grant_free old port g.0) g.1.1
 ]
-step_tells h old hop t (Deliver ticket) events reply new stands x =
-    tells_as h (Deliver ticket) events reply _ new x.2
-    (without_tells (entry (Deliver ticket) events reply ∷ h) x.0 ticket (pdu_of old ticket)
-    (hears_ticket h old hop t events reply x.0 (Deliver ticket) ticket (deliver_hears ticket) stands (pdu_of old ticket) refl x.1))
-step_tells h old hop t (Repeat ticket) events reply new stands x = hears_ticket h old hop t events reply new (Repeat ticket) ticket (repeat_hears ticket) stands (pdu_of old ticket) refl x
-step_tells h old hop t (Lose ticket) events reply new stands x =
-    tells_as h (Lose ticket) events reply _ new x.2
-    (without_tells (entry (Lose ticket) events reply ∷ h) old ticket (pdu_of old ticket)
-    (hop, tells_quiet h old hop (Lose ticket) events reply t refl stands (record { accepts = λ key. refl; shows = x.0; enters = λ k before. refl; silent = λ k d. d })))
-step_tells h old hop t (Version n) events reply new stands x = same h old hop t events reply new (Version n) refl stands (record { accepts = λ key. refl; shows = x.0; enters = λ k before. refl; silent = λ k d. d }) x.2
-step_tells h old hop t (Remote r) events reply new stands x = same h old hop t events reply new (Remote r) refl stands (record { accepts = λ key. refl; shows = x.0; enters = λ k before. refl; silent = λ k d. d }) x.2
-step_tells h old hop t (Bearer r d pdcp direct) events reply new stands x = same h old hop t events reply new (Bearer r d pdcp direct) refl stands (record { accepts = λ key. refl; shows = x.0; enters = λ k before. refl; silent = λ k d. d }) x.2
-step_tells h old hop t End events reply new stands x = same h old hop t events reply new End refl stands (record { accepts = λ key. refl; shows = x.0; enters = λ k before. refl; silent = λ k d. d }) x.2
+step_tells h s t old hop told (Deliver ticket) events reply new stands x = hears_entry h s t old hop told events reply new (without ticket) (λ g stage c next m. tells_without g stage ticket c next m) (Deliver ticket) ticket (deliver_hears ticket) stands (pdu_of old ticket) refl x
+step_tells h s t old hop told (Repeat ticket) events reply new stands x = hears_entry h s t old hop told events reply new (λ c. c) (λ g stage c next m. m) (Repeat ticket) ticket (repeat_hears ticket) stands (pdu_of old ticket) refl x
+step_tells h s t old hop told (Lose ticket) events reply new stands x = loses h s t old hop told events reply new ticket stands x.0 (pdu_of old ticket) x.1
+step_tells h s t old hop told (Expire port side timer) events reply new stands x = elim (unless_cases (expire_refusal old port) old events reply new (Expires old side timer events reply new) x) [
+  | inl r ↦
+      let refused : is_refusal reply ≡ true = ap is_refusal r.3 ∙ expire_refused old port r.0 r.1 in
+      same h s t old hop told events reply new (Expire port side timer) refl stands (record { accepts = λ key. refl; enters = λ k before. refl; silent = λ k d. d }) r.2 (refused_agrees reply refused) r.4
+  | inr e ↦
+      let m = tells_expired h s t old hop told port side timer events reply new stands e.1 in
+      record { hop = m.0; tells = m.1; agrees = says_agrees e.1.key e.1.expired events reply e.1.says }
+]
+step_tells h s t old hop told (Version n) events reply new stands x = plain h s t old hop told (Version n) events reply new refl stands (λ key. refl) (λ k before. refl) (λ k d. d) x
+step_tells h s t old hop told (Set name value) events reply new stands x = plain h s t old hop told (Set name value) events reply new refl stands (λ key. refl) (λ k before. refl) (λ k d. d) x
+step_tells h s t old hop told (Remote r) events reply new stands x = plain h s t old hop told (Remote r) events reply new refl stands (λ key. refl) (λ k before. refl) (λ k d. d) x
+step_tells h s t old hop told (Bearer r d pdcp direct) events reply new stands x = plain h s t old hop told (Bearer r d pdcp direct) events reply new refl stands (λ key. refl) (λ k before. refl) (λ k d. d) x
+step_tells h s t old hop told End events reply new stands x = plain h s t old hop told End events reply new refl stands (λ key. refl) (λ k before. refl) (λ k d. d) x
+step_tells h s t old hop told line events reply new stands x = absurd (false≢true stands.carried)
 
 -- a history tells of each chain that it leads to
-pub tells : (h : List Entry) (c : Chain) → LeadsTo h c → (hop : Hop) × Tells h c hop
-tells [] c x = subst (λ (d : Chain). (hop : Hop) × Tells [] d hop) (sym x) (start (direct_size Empty) 32 0 32, tells_nothing)
-tells (e ∷ h) c x = let before = tells h x.0 x.1 in step_tells h x.0 before.0 before.1 e.line e.events e.reply c x.2 x.3
+pub tells : (h : List Entry) (stage : ScriptStage) (c : Chain) → LeadsTo h stage c → (hop : Hop) × Tells h stage c hop
+tells [] stage c x = subst (λ (s : ScriptStage). (hop : Hop) × Tells [] s c hop) (sym x.0) (subst (λ (d : Chain). (hop : Hop) × Tells [] first_stage d hop) (sym x.1) (_, tells_nothing))
+tells (e ∷ h) stage c x =
+    let before = tells h x.0 x.1 x.2 in
+    let m = step_tells h x.0 stage x.1 before.0 before.1 e.line e.events e.reply c x.3 x.4 in
+    (m.hop, m.tells)
 
 -- so each such chain fits
-pub leads_fits : (h : List Entry) (c : Chain) → LeadsTo h c → Fits c
-leads_fits h c x = let t = tells h c x in record { hop = t.0; fits = t.1.fits }
+pub leads_fits : (h : List Entry) (stage : ScriptStage) (c : Chain) → LeadsTo h stage c → Fits c
+leads_fits h stage c x = let t = tells h stage c x in record { hop = t.0; fits = t.1.fits }
 
--- it has the tables that the history has closed
-pub leads_table : (h : List Entry) (c : Chain) → LeadsTo h c → c.table ≡ table_of (stage_of h)
-leads_table h c x = (tells h c x).1.table
+-- behind go it has the tables that the script has declared
+pub leads_table : (h : List Entry) (stage : ScriptStage) (c : Chain) → LeadsTo h stage c → is_past_go stage.part ≡ true → c.table ≡ table_of (contents stage)
+leads_table h stage c x past = (tells h stage c x).1.staged.past past
 
--- and of the bearer's key the SDUs that were submitted, of which so many were handed up
-pub leads_book : (h : List Entry) (c : Chain) → LeadsTo h c → (key : Key) → IsKey c.table key → (submitted key h ≡ c.accepted) × (length (handed key h) ≡ c.rx_deliv)
-leads_book h c x key its =
-    let t = tells h c x in
+-- and of the bearer's key the SDUs that were submitted, of which so many were handed up and so many confirmed
+pub leads_book : (h : List Entry) (stage : ScriptStage) (c : Chain) → LeadsTo h stage c → (key : Key) → IsKey c.table key → (submitted key h ≡ c.accepted) × (length (handed key h) ≡ c.rx_deliv) × (confirmed key h ≡ chain.confirmed c)
+leads_book h stage c x key its =
+    let t = tells h stage c x in
     let b = t.1.book.own key its in
-    (b.0, ap length b.1 ∙ length-take-le c.rx_deliv c.accepted t.1.fits.passed.within)
-
--- a PDU that is heard agrees with what is held
-ticket_agrees : (h : List Entry) (old : Chain) (hop : Hop) (t : Tells h old hop) (ticket : ℕ) (events : List Event) (reply : Reply) (new : Chain) (o : Option AirEntry) → pdu_of old ticket ≡ o → HearsTicket old o events reply new → is_conflict reply ≡ false
-ticket_agrees h old hop t ticket events reply new None here x = ap is_conflict x.1
-ticket_agrees h old hop t ticket events reply new (Some pdu) here x = (hears_leaves old hop t.fits pdu (t.fits.air (ticket - 1) pdu (pdu_at old ticket pdu here).1) events reply new x).agrees
+    (b.0, handed_many h stage c t.0 t.1 key its, b.2)
 
 -- no line is answered with a conflict
-step_agrees : (h : List Entry) (old : Chain) (hop : Hop) (t : Tells h old hop) (table : BearerTable) (line : Line) (events : List Event) (reply : Reply) (new : Chain) → Step table old line events reply new → is_conflict reply ≡ false
-step_agrees h old hop t table (Submit key sdu) events reply new x = elim (unless_cases (submit_refusal old key sdu) old reply new (Accepts old key sdu reply new) x.1) [
-  | inl r ↦ ap is_conflict r.2 ∙ refused_agrees r.0 (submit_refused old key sdu r.0 r.1)
-  | inr a ↦ ap is_conflict a.1.says
-]
-step_agrees h old hop t table (Grant port way n) events reply new x = elim (unless_cases (grant_refusal old port) old reply new (Granted old port way n reply new) x.1) [
-  | inl r ↦ ap is_conflict r.2 ∙ refused_agrees r.0 (grant_refused old port r.0 r.1)
-  | inr g ↦ answered g.1.answer g.1.tx g.1.sends
-]
-  where
-    answered : (answer : TxGrant) (tx : Tx) → Sends old port way answer tx reply new → is_conflict reply ≡ false
-    answered (grant.Sent number bytes) tx y = ap is_conflict y.0
-    answered grant.Idle tx y = ap is_conflict y.0
-    answered (grant.Small need) tx y = ap is_conflict y.0
-step_agrees h old hop t table (Deliver ticket) events reply new x = ticket_agrees h old hop t ticket events reply x.0 (pdu_of old ticket) refl x.1
-step_agrees h old hop t table (Repeat ticket) events reply new x = ticket_agrees h old hop t ticket events reply new (pdu_of old ticket) refl x
-step_agrees h old hop t table (Lose ticket) events reply new x = ap is_conflict x.1 ∙ lost (is_some (pdu_of old ticket))
-  where
-    lost : (b : Bool) → is_conflict (cond b Ok NoAir) ≡ false
-    lost true = refl
-    lost false = refl
-step_agrees h old hop t table line events reply new x = ap is_conflict x.1
-
 pub never_conflicts : NeverConflicts
-never_conflicts h e c x = let before = tells h x.0 x.1 in step_agrees h x.0 before.0 before.1 (table_of (stage_of (e ∷ h))) e.line e.events e.reply c x.3
+never_conflicts h e stage c x =
+    let before = tells h x.0 x.1 x.2 in
+    (step_tells h x.0 stage x.1 before.0 before.1 e.line e.events e.reply c x.3 x.4).agrees

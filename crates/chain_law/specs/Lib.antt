@@ -1,2 +1,3 @@
 pub mod Fits
+pub mod Carried
 pub mod Laws

@@ -1,17 +1,15 @@
 -- The book of a run: what was submitted and accepted, and what was handed up, for each key. It knows no PDU.
-use Rattle.std.specs.Prelude.{◌≡◌, ℕ, Bool, true, false, ◌&&◌, ◌==◌, List, [], ◌∷◌, ◌++◌, length, take, if◌then◌else◌}
-use Rattle.link_base.specs.declared.names.SnSize.{SnSize}
+use Rattle.std.specs.Prelude.{ℕ, Bool, true, false, ◌&&◌, ◌==◌, List, [], ◌∷◌, ◌++◌, if◌then◌else◌}
 use Rattle.link_base.specs.declared.names.Way.{Way}
 use Rattle.link_base.specs.declared.names.Way.TheVariants.{Ul, Dl}
 use Rattle.link_base.specs.declared.names.Key.{Key}
 use Rattle.script_text.specs.declared.line.Line.{Line}
 use Rattle.script_text.specs.declared.line.Line.TheVariants.{Submit}
 use Rattle.script_text.specs.declared.event.Event.{Event}
-use Rattle.script_text.specs.declared.event.Event.TheVariants.{Up}
+use Rattle.script_text.specs.declared.event.Event.TheVariants.{Up, Conf}
 use Rattle.script_text.specs.declared.reply.Reply.{Reply}
 use Rattle.script_text.specs.declared.reply.Reply.TheVariants.{OkNumber}
 use Rattle.script_text.specs.History.{Entry}
-use Rattle.chain_model.specs.Heard.{IsLeastUnheard}
 
 abbrev pub is_way : Way → Way → Bool
 is_way Ul Ul = true
@@ -36,14 +34,20 @@ submitted key (e ∷ h) = submitted key h ++ accepted key e.line e.reply
 abbrev pub ups : Key → List Event → List (List ℕ)
 ups key [] = []
 ups key (Up of sdu ∷ events) = if is_key of key then sdu ∷ ups key events else ups key events
+ups key (e ∷ events) = ups key events
 
 -- the SDUs of the key that were handed up, in order
 abbrev pub handed : Key → List Entry → List (List ℕ)
 handed key [] = []
 handed key (e ∷ h) = handed key h ++ ups key e.events
 
--- what was handed up of a key are the SDUs that were submitted and accepted, in order from the first,
--- as many as the least COUNT that no delivered PDUs complete
-pub record HandsUp (size : SnSize) (key : Key) (h : List Entry) : Type 0 where
-  pub in_order : handed key h ≡ take (length (handed key h)) (submitted key h)
-  pub exact : IsLeastUnheard size key h (length (handed key h))
+-- the confirmed number of the key that the last of these events tells
+abbrev pub confirmed_by : Key → List Event → ℕ → ℕ
+confirmed_by key [] before = before
+confirmed_by key (Conf of n ∷ events) before = if is_key of key then confirmed_by key events n else confirmed_by key events before
+confirmed_by key (e ∷ events) before = confirmed_by key events before
+
+-- the confirmed number of the key
+abbrev pub confirmed : Key → List Entry → ℕ
+confirmed key [] = 0
+confirmed key (e ∷ h) = confirmed_by key e.events (confirmed key h)

@@ -7,6 +7,7 @@ use Rattle.link_base.specs.declared.names.PortName.TheVariants.{Direct}
 use Rattle.link_base.specs.declared.names.Way.{Way}
 use Rattle.link_base.specs.declared.names.Key.{Key}
 use Rattle.rlc_pdu.specs.Amd.{Amd, IsAmd}
+use Rattle.rlc_model.specs.declared.hop.Pdu.{Pdu}
 use Rattle.rlc_model.specs.Pdu.{end_of, is_end, byte_at}
 use Rattle.pdcp_pdu.specs.Pdcp.{IsPdcp}
 use Rattle.pdcp_pdu.specs.Pdcp.Pdcp.{Sdu}
@@ -14,7 +15,9 @@ use Rattle.script_text.specs.declared.line.Line.{Line}
 use Rattle.script_text.specs.declared.line.Line.TheVariants.{Deliver, Repeat}
 use Rattle.script_text.specs.declared.reply.Reply.{Reply}
 use Rattle.script_text.specs.History.{Entry}
-use Rattle.chain_model.specs.Air.{AirEntry, air_entry, is_delivery}
+use Rattle.link_base.specs.SequenceNumbers.{Near}
+use Rattle.chain_model.specs.Air.{air_entry, is_delivery}
+use Rattle.chain_model.specs.Book.{handed}
 
 -- the line and its reply have this ticket's PDU heard
 abbrev pub delivers : Line → Reply → ℕ → Type 0
@@ -25,7 +28,7 @@ delivers line reply t = ⊥
 -- behind a history the entry delivers, over a port and in a way, a data PDU of this number with these fields
 pub record Delivers (size : SnSize) (port : PortName) (way : Way) (h : List Entry) (e : Entry) (number : ℕ) (fields : Amd) : Type 0 where
   pub ticket : ℕ
-  pub pdu : AirEntry
+  pub pdu : Pdu
   pub heard : delivers e.line e.reply ticket
   pub shown : air_entry h ticket ≡ Some pdu
   pub its_port : pdu.port ≡ port
@@ -52,10 +55,21 @@ pub record HeardAt (size : SnSize) (port : PortName) (way : Way) (h : List Entry
   pub end : HasEnd size port way h number (length sdu)
   pub bytes : (place : ℕ) → place < length sdu → HasByte size port way h number place (slice_index sdu place)
 
--- of a key, a number is heard on its direct port as a PDCP data PDU with this COUNT and this SDU. The COUNT is the PDU's SN, since a
--- bearer has at most 2,048 SDUs as long as none is confirmed (TS 38.323 clause 6.2.2)
+-- behind a history the entry completes, of a key, a number on its direct port whose SDU is a PDCP data PDU with this SDU and the SN of
+-- this COUNT, the only one near the number of SDUs handed up so far (TS 38.323 clauses 6.2.2 and 7.1)
+pub record Completes (size : SnSize) (key : Key) (h : List Entry) (e : Entry) (count : ℕ) (sdu : List ℕ) : Type 0 where
+  pub number : ℕ
+  pub pdu : List ℕ
+  pub now : HeardAt size (Direct key.remote key.drb) key.way (e ∷ h) number pdu
+  pub before : HeardAt size (Direct key.remote key.drb) key.way h number pdu → ⊥
+  pub sn : ℕ
+  pub reads : IsPdcp S12 (Sdu sn sdu) pdu
+  pub near : Near S12 sn (length (handed key h)) count
+
+-- of a key, delivered PDUs complete the SDU of this COUNT, which is this
 abbrev pub IsHeardAs : SnSize → Key → List Entry → ℕ → List ℕ → Type 0
-IsHeardAs size key h count sdu = (number : ℕ) × (pdu : List ℕ) × HeardAt size (Direct key.remote key.drb) key.way h number pdu × IsPdcp S12 (Sdu count sdu) pdu
+IsHeardAs size key [] count sdu = ⊥
+IsHeardAs size key (e ∷ h) count sdu = Completes size key h e count sdu ⊎ IsHeardAs size key h count sdu
 
 -- of a key, delivered PDUs complete the SDU of this COUNT
 abbrev pub IsHeard : SnSize → Key → List Entry → ℕ → Type 0

@@ -3,6 +3,6 @@
 //! The definitions stand in specs/.
 #![tactic(auto)]
 
-mod laws;
+mod table;
 
-pub use laws::segments_are_handed_up;
+pub use table::{Bearer, BearerTable};

@@ -3,6 +3,7 @@
 
 mod bytes;
 mod deduced;
+mod discard;
 mod item_list;
 mod memory;
 mod names;
@@ -10,6 +11,7 @@ mod rlc_words;
 
 pub use bytes::{Bytes, copy_bytes};
 pub use deduced::{near, one_number_is_near};
+pub use discard::Discard;
 pub use item_list::{ItemList, NumberList, SduList};
 pub use memory::Memory;
 pub use names::{

@@ -1,25 +1,35 @@
 -- A run over a script of the grammar comes to its end.
-use Rattle.std.proofs.Common.{◌≡◌, ◌⊎◌, ℕ, ◌+◌, ◌<◌, ◌≤◌, true, false, is_some, unwrap_or, List, [], ◌∷◌, length, get_or, take, drop, refl, sym, ◌∙◌, ap, subst, arith, inl, inr, length-append, length-take-le}
-use Rattle.std.specs.declared.option.Option.{Option}
-use Rattle.std.specs.declared.option.Option.TheVariants.{Some, None}
+use Rattle.std.proofs.Common.{◌≡◌, ◌⊎◌, ℕ, ◌+◌, ◌<◌, ◌≤◌, true, false, List, [], ◌∷◌, length, get_or, take, drop, cond, Option, Some, Result, Ok, Err, refl, sym, ◌∙◌, ap, subst, arith, inl, inr, length-append, length-take-le}
 use Rattle.std.proofs.lemmas.Bool.{cases_eq, cases_lt, false≢true}
 use Rattle.std.proofs.lemmas.List.{get_or-take}
 use Rattle.std.proofs.Math.Seq.{take-append_seam, take-length, drop-append-add, get_or-append_seam}
 use Rattle.std.proofs.Math.ListN.{drop_of_length-le}
+use Rattle.bearer_map.specs.declared.rows.TableFault.{TableFault}
 use Rattle.script_text.specs.declared.line.Line.{Line}
 use Rattle.script_text.specs.declared.line.Line.TheVariants.{Version}
+use Rattle.script_text.specs.declared.reason.Reason.{Reason}
+use Rattle.script_text.specs.declared.reason.Reason.TheVariants as reason
+use Rattle.script_text.specs.declared.reason.LineFault.{LineFault}
+use Rattle.script_text.specs.declared.reason.LineFault.TheVariants as fault
 use Rattle.script_text.specs.declared.stage.ScriptStage.{ScriptStage}
-use Rattle.script_text.specs.declared.stage.ScriptStage.TheVariants.{Start, Tables, Running, Ended}
-use Rattle.script_text.specs.Lines.{is_skipped}
+use Rattle.script_text.specs.Words.{words_of}
+use Rattle.script_text.specs.Lines.{is_skipped, part_of, Spells}
 use Rattle.script_text.specs.Splits.{HasNoLf, Splits, IsLong, IsTooLong}
-use Rattle.script_text.specs.Stages.{stage_after, is_running, is_ended}
-use Rattle.script_text.specs.History.{Entry, stage_of, Reads, Spelt, MayNotStand}
+use Rattle.script_text.specs.Stages.{after}
+use Rattle.script_text.specs.Grammar.{IsBad, IsFirst, Parses, reasons}
+use Rattle.script_text.specs.Texts.{is_running}
+use Rattle.script_text.specs.History.{Entry, Reads, Spelt}
 use Rattle.script_text.proofs.OneLine.{one_line}
+use Rattle.script_text.proofs.OneParse.{one_parse}
+use Rattle.script_text.proofs.SpeltIsRead.{spelt_is_read}
+use Rattle.chain_model.specs.Tables.{contents, is_carried}
 use Rattle.chain_model.specs.Chain.{Chain}
-use Rattle.chain_model.specs.Steps.{LeadsTo}
+use Rattle.chain_model.specs.Steps.{Stands, LeadsTo}
 use Rattle.player.specs.declared.play.Ending.{Ending}
-use Rattle.player.specs.declared.play.Ending.TheVariants.{Done, Later, NoGo, TooLong}
-use Rattle.player.specs.Runs.{Stops, LeadsToStage, ScriptsEnd}
+use Rattle.player.specs.declared.play.Ending.TheVariants.{Done, Later, Bad, TooLong}
+use Rattle.player.specs.Plays.{IsLater}
+use Rattle.player.specs.Ended.{is_ended}
+use Rattle.player.specs.Runs.{IsBadNext, Stops, LeadsToStage, ScriptsEnd}
 
 -- a line is the front of the bytes that it splits off
 line_is : (bytes line after : List ℕ) → Splits bytes line after → take (length line) bytes ≡ line
@@ -86,6 +96,10 @@ reads_one input (t ∷ texts) rest (t' ∷ texts') rest' r r' many =
     let same : t ∷ texts ≡ t' ∷ texts' = cc (older.0, one.0) in
     (same, one.1)
 
+-- what leads on leads to one stage
+same_stage : (a b : ScriptStage) → (let r : Result ScriptStage TableFault = Ok a in r) ≡ Ok b → a ≡ b
+same_stage a b e = cc
+
 -- lines lead to one stage
 leads_one : (texts : List (List ℕ)) (s t : ScriptStage) → LeadsToStage texts s → LeadsToStage texts t → s ≡ t
 leads_one [] s t x y = x ∙ sym y
@@ -94,60 +108,54 @@ leads_one (text ∷ texts) s t (inl x) (inr y) = absurd (false≢true (sym y.0 �
 leads_one (text ∷ texts) s t (inr x) (inl y) = absurd (false≢true (sym x.0 ∙ y.0))
 leads_one (text ∷ texts) s t (inr x) (inr y) =
     let before = leads_one texts x.2 y.2 x.3 y.3 in
-    let line = one_line _ x.1 y.1 x.4 y.4 in
-    let same : Some s ≡ Some t = sym x.5 ∙ (ap (λ (u : ScriptStage). stage_after u x.1) before ∙ (ap (λ (l : Line). stage_after y.2 l) line ∙ y.5)) in
-    cc
+    let line = one_line (words_of text) x.1 y.1 x.4 y.4 in
+    same_stage s t (sym x.5.enters ∙ (ap (λ (u : ScriptStage). after u x.1) before ∙ (ap (λ (l : Line). after y.2 l) line ∙ y.5.enters)))
 
--- what there is is its value
-some_is : (o : Option ScriptStage) → is_some o ≡ true → o ≡ Some (unwrap_or o Start)
-some_is None is = absurd (false≢true is)
-some_is (Some s) is = refl
-
--- the lines of a lawful history lead to its stage
-leads_of : (texts : List (List ℕ)) (h : List Entry) (c : Chain) → Spelt texts h → LeadsTo h c → LeadsToStage texts (stage_of h)
-leads_of [] [] c x l = refl
-leads_of [] (e ∷ h) c x l = absurd x
-leads_of (text ∷ texts) [] c x l = inl (x.0, leads_of texts [] c x.1 l)
-leads_of (text ∷ texts) (e ∷ h) c (inl x) l = inl (x.0, leads_of texts (e ∷ h) c x.1 l)
-leads_of (text ∷ texts) (e ∷ h) c (inr x) l = inr (x.0, e.line, stage_of h, leads_of texts h l.0 x.2 l.1, x.1, some_is _ l.2)
+-- the lines of a history lead to its stage
+leads_of : (texts : List (List ℕ)) (h : List Entry) (stage : ScriptStage) (c : Chain) → Spelt texts h → LeadsTo h stage c → LeadsToStage texts stage
+leads_of [] [] stage c x l = l.0
+leads_of [] (e ∷ h) stage c x l = absurd x
+leads_of (text ∷ texts) [] stage c x l = inl (x.0, leads_of texts [] stage c x.1 l)
+leads_of (text ∷ texts) (e ∷ h) stage c (inl x) l = inl (x.0, leads_of texts (e ∷ h) stage c x.1 l)
+leads_of (text ∷ texts) (e ∷ h) stage c (inr x) l = inr (x.0, e.line, l.0, leads_of texts h l.0 l.1 x.2 l.2, x.1, l.3)
 
 -- lines without their newest lead to a stage too
 older_lead : (text : List ℕ) (texts : List (List ℕ)) (s : ScriptStage) → LeadsToStage (text ∷ texts) s → (before : ScriptStage) × LeadsToStage texts before
 older_lead text texts s (inl x) = (s, x.1)
 older_lead text texts s (inr x) = (x.2, x.3)
 
--- no line may stand behind an ended stage
-ended_none : (s t : ScriptStage) (line : Line) → is_ended s ≡ true → stage_after s line ≡ Some t → ⊥
-ended_none Start t line is e = false≢true is
-ended_none (Tables table) t line is e = false≢true is
-ended_none (Running table) t line is e = false≢true is
-ended_none (Ended table) t (Version n) is e = absurd (cc)
-ended_none (Ended table) t line is e = absurd (cc)
+-- no line has its place behind the end line
+never_ended : (line : Line) → is_ended (part_of line) ≡ false
+never_ended (Version n) = refl
+never_ended line = refl
+
+ended_none : (s t : ScriptStage) (line : Line) → is_ended s.part ≡ true → Stands s line t → ⊥
+ended_none s t line is x = false≢true (sym (never_ended line) ∙ (ap is_ended x.part ∙ is))
 
 -- behind an ended stage the stage stays ended
-stays_ended : (text : List ℕ) (texts : List (List ℕ)) (s : ScriptStage) → ((before : ScriptStage) → LeadsToStage texts before → is_ended before ≡ true) → LeadsToStage (text ∷ texts) s → is_ended s ≡ true
+stays_ended : (text : List ℕ) (texts : List (List ℕ)) (s : ScriptStage) → ((before : ScriptStage) → LeadsToStage texts before → is_ended before.part ≡ true) → LeadsToStage (text ∷ texts) s → is_ended s.part ≡ true
 stays_ended text texts s ended (inl x) = ended s x.1
 stays_ended text texts s ended (inr x) = absurd (ended_none x.2 s x.1 (ended x.2 x.3) x.5)
 
 -- a script may end at this stage with this rest left
 abbrev IsEnd : ScriptStage → List ℕ → Type 0
-IsEnd stage rest = (is_ended stage ≡ true) ⊎ ((is_running stage ≡ true) × (rest ≡ []))
+IsEnd stage rest = (is_ended stage.part ≡ true) ⊎ ((is_running stage.part ≡ true) × (rest ≡ []))
 
 -- a line that follows a script's end follows its end line
-ended_before : (rest text after : List ℕ) (s : ScriptStage) → IsEnd s rest → Splits rest text after → is_ended s ≡ true
+ended_before : (rest text after : List ℕ) (s : ScriptStage) → IsEnd s rest → Splits rest text after → is_ended s.part ≡ true
 ended_before rest text after s (inl ended) splits = ended
 ended_before rest text after s (inr over) splits = absurd (splits_none rest text after over.1 splits)
 
 -- more lines than a script has lead to an ended stage
 past_end : (input : List ℕ) (texts : List (List ℕ)) (rest : List ℕ) (s : ScriptStage) (whole : List (List ℕ)) (end : List ℕ) (last : ScriptStage) → Reads input texts rest → Reads input whole end → LeadsToStage texts s → LeadsToStage whole last
-    → IsEnd last end → length whole < length texts → is_ended s ≡ true
+    → IsEnd last end → length whole < length texts → is_ended s.part ≡ true
 past_end input [] rest s whole end last r w l m is more = absurd (omega arith)
 past_end input (text ∷ texts) rest s whole end last r w l m is more = stays_ended text texts s (λ before x.
     elim (cases_eq (length texts) (length whole)) [
       | inl many ↦
           let same = reads_one input texts r.0 whole end r.1 w many in
           let ended = ended_before r.0 text rest last (subst (λ (b : List ℕ). IsEnd last b) (sym same.1) is) r.2 in
-          ap is_ended (leads_one whole before last (subst (λ (t : List (List ℕ)). LeadsToStage t before) same.0 x) m) ∙ ended
+          ap (λ (s : ScriptStage). is_ended s.part) (leads_one whole before last (subst (λ (t : List (List ℕ)). LeadsToStage t before) same.0 x) m) ∙ ended
       | inr ne ↦ past_end input texts r.0 before whole end last r.1 w x m is (omega arith)
     ]) l
 
@@ -188,15 +196,6 @@ long_stops used rest text after splits short long =
     let past = within_line rest text after 65537 splits long.enough long.one in
     omega arith
 
--- a line that leads on may stand
-next_stands : (texts : List (List ℕ)) (text : List ℕ) (s t : ScriptStage) → LeadsToStage texts s → is_skipped text ≡ false → LeadsToStage (text ∷ texts) t → MayNotStand text s → ⊥
-next_stands texts text s t l keep (inl x) none = false≢true (sym keep ∙ x.0)
-next_stands texts text s t l keep (inr x) none =
-    let same = leads_one texts s x.2 l x.3 in
-    let stands : stage_after s x.1 ≡ Some t = ap (λ (u : ScriptStage). stage_after u x.1) same ∙ x.5 in
-    let stops = none x.1 x.4 in
-    absurd (cc)
-
 -- a line that ends in time isn't too long
 too_long_stops : (input rest text after : List ℕ) (used : ℕ) → used + length rest ≡ length input → Splits rest text after → length input ≤ 16777216 + length after → IsTooLong used rest → ⊥
 too_long_stops input rest text after used place splits limit long =
@@ -206,60 +205,101 @@ too_long_stops input rest text after used place splits limit long =
       | inr end ↦ omega (arith, ap length end.1, long.past)
     ]
 
+-- the answers of reading are apart
+no_want_bad : (why : Reason) → (let r : Result (Option Line) LineFault = Err (fault.Bad why) in r) ≡ Err fault.Memory → ⊥
+no_want_bad why e = absurd cc
+
+no_want_good : (line : Line) → (let r : Result (Option Line) LineFault = Ok (Some line) in r) ≡ Err fault.Memory → ⊥
+no_want_good line e = absurd cc
+
+bad_or_good : (why : Reason) (line : Line) → (let r : Result (Option Line) LineFault = Err (fault.Bad why) in r) ≡ Ok (Some line) → ⊥
+bad_or_good why line e = absurd cc
+
+-- a text that leads on from a stage is bad there for no reason
+module _ (texts : List (List ℕ)) (text : List ℕ) (s t : ScriptStage) (short : length text ≤ 65536) (l : LeadsToStage texts s) where
+  -- it is read as the line that it leads on with
+  read_so : (skip : is_skipped text ≡ false) (line : Line) (before : ScriptStage) → LeadsToStage texts before → Spells (words_of text) line → Stands before line t → Parses s text (Ok (Some line)) t
+  read_so skip line before older spelt stands =
+      let same = leads_one texts before s older l in
+      subst (λ (u : ScriptStage). Parses u text (Ok (Some line)) t) same (spelt_is_read before t text line short (record { stands = stands.part; spelt = spelt }) stands.enters)
+
+  not_bad : (why : Reason) → LeadsToStage (text ∷ texts) t → IsFirst (IsBad s text) (reasons text) why → ⊥
+  not_bad why (inl x) first = only_long (subst (λ b. IsFirst (IsBad s text) (cond b (reason.Line ∷ []) (reason.Line ∷ reason.Text ∷ reason.Version ∷ reason.Word ∷ reason.Form ∷ reason.Range ∷ reason.Twice ∷ reason.Unknown ∷ reason.Limit ∷ reason.Map ∷ [])) why) x.0 first)
+    where
+      only_long : IsFirst (IsBad s text) (reason.Line ∷ []) why → ⊥
+      only_long (inl y) = omega (arith, short, y.1)
+      only_long (inr y) = y.1
+  not_bad why (inr x) first =
+      let read = read_so x.0 x.1 x.2 x.3 x.4 x.5 in
+      bad_or_good why x.1 (one_parse s s t text (Err (fault.Bad why)) (Ok (Some x.1)) (no_want_bad why) (no_want_good x.1) (first, refl) read).0
+
+  not_later : LeadsToStage (text ∷ texts) t → IsLater s text → ⊥
+  not_later (inl x) later = false≢true (sym (spelt_is_read s later.next text later.line short later.is_line later.enters).0 ∙ x.0)
+  not_later (inr x) later =
+      let line = one_line (words_of text) later.line x.1 later.is_line.spelt x.4 in
+      let same = leads_one texts s x.2 l x.3 in
+      let next : later.next ≡ t = same_stage later.next t (sym later.enters ∙ (ap (λ (u : ScriptStage). after u later.line) same ∙ (ap (λ (k : Line). after x.2 k) line ∙ x.5.enters))) in
+      false≢true (sym later.not_carried ∙ (ap (λ (u : ScriptStage). is_carried (contents u) later.line) next ∙ (ap (λ (k : Line). is_carried (contents t) k) line ∙ x.5.carried)))
+
 -- a run doesn't stop where the script goes on
-going_on_done : (input : List ℕ) (texts : List (List ℕ)) (h : List Entry) (used : ℕ) (rest : List ℕ) (ending : Ending) (out : List ℕ) → used + length rest ≡ length input → LeadsToStage texts (stage_of h) → GoesOn input texts rest
-    → Stops texts h used rest ending out → ending ≡ Done
-going_on_done input texts h used rest Done out place l g x = refl
-going_on_done input texts h used rest Later out place l g x = elim x.1 [
-  | inl long ↦ absurd (long_stops used rest g.text g.after g.splits g.short long)
-  | inr bad ↦
-      let same = splits_one rest bad.0 bad.1.0 g.text g.after bad.1.1 g.splits in
-      let keep : is_skipped g.text ≡ false = ap is_skipped (sym same.0) ∙ bad.1.3 in
-      absurd (next_stands texts g.text (stage_of h) g.stage l keep g.leads (subst (λ (t : List ℕ). MayNotStand t (stage_of h)) same.0 bad.2))
-]
-going_on_done input texts h used rest NoGo out place l g x = absurd (splits_none rest g.text g.after x.2 g.splits)
-going_on_done input texts h used rest TooLong out place l g x = absurd (too_long_stops input rest g.text g.after used place g.splits g.limit x.1)
+module _ (input : List ℕ) (texts : List (List ℕ)) (h : List Entry) (stage : ScriptStage) (c : Chain) (used : ℕ) (rest : List ℕ) (place : used + length rest ≡ length input) (l : LeadsToStage texts stage) (g : GoesOn input texts rest) where
+  goes_on_well : (why : Reason) → IsBadNext stage used rest why → ⊥
+  goes_on_well reason.Line x = long_stops used rest g.text g.after g.splits g.short x
+  goes_on_well reason.End x = splits_none rest g.text g.after x.1 g.splits
+  goes_on_well why x =
+      let same = splits_one rest x.0 x.1.0 g.text g.after x.1.1 g.splits in
+      not_bad texts g.text stage g.stage g.short l why g.leads (subst (λ (t : List ℕ). IsFirst (IsBad stage t) (reasons t) why) same.0 x.2)
+
+  going_on_done : (ending : Ending) (out : List ℕ) → Stops (length texts) h stage c used rest ending out → ending ≡ Done
+  going_on_done Done out x = refl
+  going_on_done (Bad why) out x = absurd (goes_on_well why x.1)
+  going_on_done Later out x =
+      let same = splits_one rest x.1 x.2.0 g.text g.after x.2.1 g.splits in
+      absurd (not_later texts g.text stage g.stage g.short l g.leads (subst (IsLater stage) same.0 x.3))
+  going_on_done TooLong out x = absurd (too_long_stops input rest g.text g.after used place g.splits g.limit x.1)
 
 -- the last of the lines that lead behind go ends in time
-ends_in_time : (input : List ℕ) (texts : List (List ℕ)) (rest : List ℕ) (s : ScriptStage) → Reads input texts rest → LeadsToStage texts s → is_running s ≡ true → length input ≤ 16777216 + length rest
-ends_in_time input [] rest s r l is = absurd (false≢true (sym (ap is_running l) ∙ is))
+ends_in_time : (input : List ℕ) (texts : List (List ℕ)) (rest : List ℕ) (s : ScriptStage) → Reads input texts rest → LeadsToStage texts s → is_running s.part ≡ true → length input ≤ 16777216 + length rest
+ends_in_time input [] rest s r l is = absurd (false≢true (sym (ap (λ (u : ScriptStage). is_running u.part) l) ∙ is))
 ends_in_time input (text ∷ texts) rest s r l is = r.4
 
 -- behind go, at the input's end, a run comes to its end
-over_stops : (input : List ℕ) (texts : List (List ℕ)) (h : List Entry) (used : ℕ) (rest : List ℕ) (ending : Ending) (out : List ℕ) → used + length rest ≡ length input → Reads input texts rest → LeadsToStage texts (stage_of h)
-    → is_running (stage_of h) ≡ true → rest ≡ [] → Stops texts h used rest ending out → ending ≡ Done
-over_stops input texts h used rest Done out place r l is none x = refl
-over_stops input texts h used rest Later out place r l is none x = elim x.1 [
-  | inl long ↦ absurd (omega (arith, ap length none, long.enough))
-  | inr bad ↦ absurd (splits_none rest bad.0 bad.1.0 none bad.1.1)
-]
-over_stops input texts h used rest NoGo out place r l is none x = absurd (false≢true (sym x.1 ∙ is))
-over_stops input texts h used rest TooLong out place r l is none x =
-    let limit = ends_in_time input texts rest (stage_of h) r l is in
-    absurd (omega (arith, ap length none, x.1.past))
+module _ (input : List ℕ) (texts : List (List ℕ)) (h : List Entry) (stage : ScriptStage) (c : Chain) (used : ℕ) (rest : List ℕ) (place : used + length rest ≡ length input) (l : LeadsToStage texts stage) (running : is_running stage.part ≡ true)
+    (none : rest ≡ []) where
+  over_well : (why : Reason) → IsBadNext stage used rest why → ⊥
+  over_well reason.Line x = omega (arith, ap length none, x.enough)
+  over_well reason.End x = false≢true (sym x.0 ∙ running)
+  over_well why x = splits_none rest x.0 x.1.0 none x.1.1
+
+  over_stops : (ending : Ending) (out : List ℕ) → Reads input texts rest → Stops (length texts) h stage c used rest ending out → ending ≡ Done
+  over_stops Done out r x = refl
+  over_stops (Bad why) out r x = absurd (over_well why x.1)
+  over_stops Later out r x = absurd (splits_none rest x.1 x.2.0 none x.2.1)
+  over_stops TooLong out r x =
+      let limit = ends_in_time input texts rest stage r l running in
+      absurd (omega (arith, ap length none, x.1.past))
 
 -- behind an end line too
-ended_stops : (texts : List (List ℕ)) (h : List Entry) (used : ℕ) (rest : List ℕ) (ending : Ending) (out : List ℕ) → is_ended (stage_of h) ≡ true → Stops texts h used rest ending out → ending ≡ Done
-ended_stops texts h used rest Done out is x = refl
-ended_stops texts h used rest Later out is x = absurd (false≢true (sym x.0 ∙ is))
-ended_stops texts h used rest NoGo out is x = absurd (false≢true (sym x.0 ∙ is))
-ended_stops texts h used rest TooLong out is x = absurd (false≢true (sym x.0 ∙ is))
+ended_stops : (lines : ℕ) (h : List Entry) (stage : ScriptStage) (c : Chain) (used : ℕ) (rest : List ℕ) (ending : Ending) (out : List ℕ) → is_ended stage.part ≡ true → Stops lines h stage c used rest ending out → ending ≡ Done
+ended_stops lines h stage c used rest Done out is x = refl
+ended_stops lines h stage c used rest (Bad why) out is x = absurd (false≢true (sym x.0 ∙ is))
+ended_stops lines h stage c used rest Later out is x = absurd (false≢true (sym x.0 ∙ is))
+ended_stops lines h stage c used rest TooLong out is x = absurd (false≢true (sym x.0 ∙ is))
 
 pub scripts_end : ScriptsEnd
 scripts_end input ending out run script =
-    let h = run.history in
-    let leads : LeadsToStage run.texts (stage_of h) = leads_of run.texts h run.chain run.spelt run.leads in
+    let leads : LeadsToStage run.texts run.stage = leads_of run.texts run.history run.stage run.chain run.spelt run.leads in
     elim (cases_lt (length run.texts) (length script.texts)) [
-      | inl less ↦ going_on_done input run.texts h run.used run.rest ending out run.place leads (goes_on input run.texts run.rest script.texts script.rest script.stage run.reads script.reads script.leads less) run.stops
+      | inl less ↦ going_on_done input run.texts run.history run.stage run.chain run.used run.rest run.place leads (goes_on input run.texts run.rest script.texts script.rest script.stage run.reads script.reads script.leads less) ending out run.stops
       | inr more ↦ elim (cases_eq (length run.texts) (length script.texts)) [
         | inl many ↦
             let same = reads_one input run.texts run.rest script.texts script.rest run.reads script.reads many in
-            let stage : script.stage ≡ stage_of h = leads_one script.texts script.stage (stage_of h) script.leads (subst (λ (t : List (List ℕ)). LeadsToStage t (stage_of h)) same.0 leads) in
+            let stage : script.stage ≡ run.stage = leads_one script.texts script.stage run.stage script.leads (subst (λ (t : List (List ℕ)). LeadsToStage t run.stage) same.0 leads) in
             elim script.ends [
-              | inl ended ↦ ended_stops run.texts h run.used run.rest ending out (ap is_ended (sym stage) ∙ ended) run.stops
-              | inr over ↦ over_stops input run.texts h run.used run.rest ending out run.place run.reads leads (ap is_running (sym stage) ∙ over.0) (same.1 ∙ over.1) run.stops
+              | inl ended ↦ ended_stops (length run.texts) run.history run.stage run.chain run.used run.rest ending out (ap (λ (u : ScriptStage). is_ended u.part) (sym stage) ∙ ended) run.stops
+              | inr over ↦ over_stops input run.texts run.history run.stage run.chain run.used run.rest run.place leads (ap (λ (u : ScriptStage). is_running u.part) (sym stage) ∙ over.0) (same.1 ∙ over.1) ending out run.reads run.stops
             ]
-        | inr ne ↦ ended_stops run.texts h run.used run.rest ending out
-            (past_end input run.texts run.rest (stage_of h) script.texts script.rest script.stage run.reads script.reads leads script.leads script.ends (omega arith)) run.stops
+        | inr ne ↦ ended_stops (length run.texts) run.history run.stage run.chain run.used run.rest ending out
+            (past_end input run.texts run.rest run.stage script.texts script.rest script.stage run.reads script.reads leads script.leads script.ends (omega arith)) run.stops
       ]
     ]

@@ -1,29 +1,41 @@
 -- A run that is under way, and how it ends.
-use Rattle.std.proofs.Common.{◌≡◌, ◌⊎◌, ℕ, ◌+◌, ◌-◌, ◌≤◌, codes, true, false, List, [], ◌∷◌, ◌++◌, length, take, refl, sym, ◌∙◌, ap, subst, arith, inl, inr, length-append, length-take-le, append_assoc}
+use Rattle.std.proofs.Common.{◌≡◌, ◌⊎◌, ℕ, ◌+◌, ◌-◌, ◌≤◌, codes, true, false, ◌&&◌, ◌==◌, is_some, List, [], ◌∷◌, ◌++◌, length, refl, sym, ◌∙◌, ap, subst, arith, inl, inr, length-append, append_assoc}
 use Rattle.std.proofs.lemmas.Bool.{false≢true}
+use Rattle.std.proofs.lemmas.Bool.Decides.{nat_tests}
+use Rattle.std.specs.declared.option.Option.{Option}
+use Rattle.std.specs.declared.option.Option.TheVariants.{Some, None}
+use Rattle.link_base.specs.declared.names.Way.TheVariants.{Ul}
 use Rattle.link_base.specs.declared.names.Key.{Key}
-use Rattle.script_text.specs.declared.stage.BearerTable.{BearerTable}
-use Rattle.script_text.specs.declared.stage.BearerTable.TheVariants.{Empty, Remote as OneRemote, Bearer as OneBearer}
+use Rattle.script_text.specs.declared.reason.Reason.{Reason}
+use Rattle.script_text.specs.declared.reason.Reason.TheVariants as reason
 use Rattle.script_text.specs.declared.stage.ScriptStage.{ScriptStage}
-use Rattle.script_text.specs.declared.stage.ScriptStage.TheVariants.{Start, Tables, Running, Ended}
+use Rattle.script_text.specs.Grammar.{IsBad, IsFirst, reasons}
 use Rattle.script_text.specs.Lines.{is_skipped}
-use Rattle.script_text.specs.Splits.{Splits, EndsInTime, IsLong, IsTooLong}
-use Rattle.script_text.specs.Stages.{table_of, is_served, is_running, is_ended}
-use Rattle.script_text.specs.Texts.{totals_text, done_text, bad_text, too_long_text}
-use Rattle.script_text.specs.History.{Entry, trace, stage_of, Reads as ReadsLines, Spelt, MayNotStand}
-use Rattle.chain_model.specs.Chain.{Chain, direct_size}
-use Rattle.chain_model.specs.Steps.{IsKey, LeadsTo}
+use Rattle.script_text.specs.Splits.{Splits, EndsInTime, IsTooLong}
+use Rattle.script_text.specs.Texts.{is_running, totals_text, done_text, bad_text, reason_text, too_long_text}
+use Rattle.script_text.specs.History.{Entry, trace, Reads as ReadsLines, Spelt}
+use Rattle.chain_model.specs.declared.table.Bearer.{Bearer}
+use Rattle.chain_model.specs.declared.table.BearerTable.{BearerTable}
+use Rattle.chain_model.specs.Tables.{is_bearer}
+use Rattle.chain_model.specs.Book.{submitted, handed}
+use Rattle.chain_model.specs.Chain.{Chain, confirmed as confirmed_number}
+use Rattle.chain_model.specs.Steps.{IsKey}
 use Rattle.chain_law.specs.Fits.{Fits}
-use Rattle.chain_law.proofs.TellsSteps.{leads_table, leads_book}
-use Rattle.chain_law.proofs.HandsUp.{hands_up}
-use Rattle.chain_model.specs.Book.{submitted, handed, HandsUp}
+use Rattle.chain_law.proofs.TellsSteps.{leads_book}
+use Rattle.chain_law.proofs.CarriesSdus.{carries_accepted}
+use Rattle.chain_law.proofs.TrueReports.{reports_truly}
+use Rattle.chain_law.proofs.HandsUp.{hands_up, confirms_handed}
+use Rattle.chain_law.proofs.Keys.{same_key, no_key}
 use Rattle.player.specs.declared.play.Ending.{Ending}
-use Rattle.player.specs.declared.play.Ending.TheVariants.{Done, Later, NoGo, TooLong}
+use Rattle.player.specs.declared.play.Ending.TheVariants.{Done, Later, Bad, TooLong}
 use Rattle.player.specs.declared.player_state.Player.{Player}
 use Rattle.player.specs.declared.player_state.Progress.{Progress}
-use Rattle.player.specs.declared.player_state.Progress.TheVariants.{Skipped, Carried, Bad}
-use Rattle.player.specs.Plays.{Plays, Reads}
-use Rattle.player.specs.Runs.{IsRun, Stops, Totals}
+use Rattle.player.specs.declared.player_state.Progress.TheVariants as progress
+use Rattle.player.specs.Finishes.{key_of, both, totals_at, Finishes}
+use Rattle.player.specs.Plays.{IsLater, Plays, Reads}
+use Rattle.player.specs.Ended.{is_ended}
+use Rattle.player.specs.Turns.{TurnsAt, StopsAtEnd}
+use Rattle.player.specs.Runs.{IsRun, Stops, Totals, IsBadNext}
 
 -- some lines were read and carried out, so many are counted, the rest is left, and their trace was written
 pub record IsGoing (input rest : List ℕ) (number : ℕ) (player : Player) (out : List ℕ) : Type 0 where
@@ -48,48 +60,45 @@ spelt_skip : (text : List ℕ) (texts : List (List ℕ)) (h : List Entry) → is
 spelt_skip text texts [] skip s = (skip, s)
 spelt_skip text texts (e ∷ h) skip s = inl (skip, s)
 
--- behind the lines of a history each key's SDUs were handed up as far as they are heard
-leads_hand_up : (h : List Entry) (c : Chain) → LeadsTo h c → (key : Key) → HandsUp (direct_size (table_of (stage_of h))) key h
-leads_hand_up h c l key = subst (λ (t : BearerTable). HandsUp (direct_size t) key h) (leads_table h c l) (hands_up h c l key)
-
-pub going_on : (input rest text after : List ℕ) (number : ℕ) (p p' : Player) (out out' : List ℕ) (progress : Progress) (g : IsGoing input rest number p out)
-    → Splits rest text after → EndsInTime (length input - length rest) rest text after → Reads text g.history progress p' out' → Fits p'.session → (progress ≡ Skipped) ⊎ (progress ≡ Carried)
+pub going_on : (input rest text after : List ℕ) (number : ℕ) (p p' : Player) (out out' : List ℕ) (step : Progress) (g : IsGoing input rest number p out)
+    → Splits rest text after → EndsInTime (length input - length rest) rest text after → Reads text g.history p.stage step p' out' → Fits p'.session → (step ≡ progress.Skipped) ⊎ (step ≡ progress.Carried)
     → IsGoing input after (number + 1) p' out'
-going_on input rest text after number p p' out out' Skipped g splits time step fits on =
+going_on input rest text after number p p' out out' progress.Skipped g splits time read fits on =
     let less = splits_shorter rest text after splits in
     let limit : length input ≤ 16777216 + length after = omega (arith, time.within, g.each_long) in
     record {
       texts = text ∷ g.texts;
       history = g.history;
       reads = (rest, g.reads, splits, time.short, limit);
-      spelt = spelt_skip text g.texts g.history step.0 g.spelt;
-      plays = step.1;
+      spelt = spelt_skip text g.texts g.history read.0 g.spelt;
+      plays = read.1;
       fits = fits;
-      written = step.2;
+      written = read.2;
       counted = omega (arith, g.counted);
       each_long = omega (arith, g.each_long);
       in_limit = limit;
     }
-going_on input rest text after number p p' out out' Carried g splits time step fits on =
+going_on input rest text after number p p' out out' progress.Carried g splits time read fits on =
     let less = splits_shorter rest text after splits in
     let limit : length input ≤ 16777216 + length after = omega (arith, time.within, g.each_long) in
     record {
       texts = text ∷ g.texts;
-      history = step.1 ∷ g.history;
+      history = read.1 ∷ g.history;
       reads = (rest, g.reads, splits, time.short, limit);
-      spelt = inr (step.0, step.2, g.spelt);
-      plays = step.3;
+      spelt = inr (read.0, read.2, g.spelt);
+      plays = read.3;
       fits = fits;
-      written = step.4;
+      written = read.4;
       counted = omega (arith, g.counted);
       each_long = omega (arith, g.each_long);
       in_limit = limit;
     }
-going_on input rest text after number p p' out out' Bad g splits time step fits on = elim on [ inl e ↦ absurd (cc) | inr e ↦ absurd (cc) ]
+going_on input rest text after number p p' out out' progress.Later g splits time read fits on = elim on [ inl e ↦ absurd (cc) | inr e ↦ absurd (cc) ]
+going_on input rest text after number p p' out out' (progress.Bad reason) g splits time read fits on = elim on [ inl e ↦ absurd (cc) | inr e ↦ absurd (cc) ]
 
 -- a run that stops here
 pub run_stops : (input rest : List ℕ) (number : ℕ) (p : Player) (out out' : List ℕ) (ending : Ending) (g : IsGoing input rest number p out)
-    → Stops g.texts g.history (length input - length rest) rest ending out' → IsRun input ending out'
+    → Stops (length g.texts) g.history p.stage p.session (length input - length rest) rest ending out' → IsRun input ending out'
 run_stops input rest number p out out' ending g stops =
     record {
       texts = g.texts;
@@ -99,70 +108,105 @@ run_stops input rest number p out out' ending g stops =
       place = omega (arith, g.each_long);
       reads = g.reads;
       spelt = g.spelt;
+      stage = p.stage;
       chain = p.session;
-      leads = g.plays.leads;
-      hands_up = leads_hand_up g.history p.session g.plays.leads;
+      leads = g.plays;
+      hands_up = hands_up g.history p.stage p.session g.plays;
+      confirms = confirms_handed g.history p.stage p.session g.plays;
+      carries = carries_accepted g.history p.stage p.session g.plays;
+      reports = reports_truly g.history p.stage p.session g.plays;
       stops = stops;
     }
 
-pub not_running : (s : ScriptStage) → ((t : BearerTable) → s ≡ Running t → ⊥) → is_running s ≡ false
-not_running Start h = refl
-not_running (Tables t) h = refl
-not_running (Running t) h = absurd (h t refl)
-not_running (Ended t) h = refl
+self_named : (m n : ℕ) → ((m == m) && (n == n)) ≡ true
+self_named m n = grind (arith, nat_tests)
 
-pub not_ended : (s : ScriptStage) → ((t : BearerTable) → s ≡ Ended t → ⊥) → is_ended s ≡ false
-not_ended Start h = refl
-not_ended (Tables t) h = refl
-not_ended (Running t) h = refl
-not_ended (Ended t) h = absurd (h t refl)
+-- the key of the tables is the one that a session tells
+key_is : (table : BearerTable) (key : Key) → IsKey table key → key_of table.bearer ≡ Some key
+key_is table key is = go table.bearer refl
+  where
+    go : (o : Option Bearer) → table.bearer ≡ o → key_of o ≡ Some key
+    go None e = absurd (no_key table key e is)
+    go (Some b) e =
+        let own : IsKey table (record { remote = b.remote; drb = b.drb; way = Ul }) = record { way = refl; own = ap (λ (o : Option Bearer). is_bearer o b.remote.0 b.drb.0) e ∙ self_named b.remote.0 b.drb.0 } in
+        ap (λ (k : Key). Some k) (same_key table (record { remote = b.remote; drb = b.drb; way = Ul }) key own is)
 
-no_totals : (t : BearerTable) (m n : ℕ) → is_served t ≡ false → totals_text t m n ≡ []
-no_totals Empty m n none = refl
-no_totals (OneRemote r) m n none = refl
-no_totals (OneBearer r d size) m n none = absurd (false≢true (sym none))
+-- where there is no bearer there are no totals
+none_told : (c : Chain) (o : Option Bearer) → is_some o ≡ false → totals_text (totals_at c (key_of o)) ++ done_text ≡ done_text
+none_told c None none = refl
+none_told c (Some b) none = absurd (false≢true (sym none))
 
 -- what is written at the end of a run
-pub run_done : (input rest : List ℕ) (number : ℕ) (p : Player) (out out' : List ℕ) (ending : Ending) (g : IsGoing input rest number p out)
-    → (is_ended p.stage ≡ true) ⊎ ((is_running p.stage ≡ true) × (rest ≡ []))
-    → (ending ≡ Done) × (out' ≡ out ++ totals_text (table_of p.stage) (length p.session.accepted) p.session.rx_deliv ++ done_text) → IsRun input ending out'
-run_done input rest number p out out' ending g why said =
+pub run_done : (input rest : List ℕ) (number : ℕ) (p : Player) (out out' : List ℕ) (g : IsGoing input rest number p out)
+    → (is_ended p.stage.part ≡ true) ⊎ ((is_running p.stage.part ≡ true) × (rest ≡ [])) → Finishes p.session out out' → IsRun input Done out'
+run_done input rest number p out out' g why said =
     let h = g.history in
     let c : Chain = p.session in
-    let last : List ℕ = totals_text (table_of (stage_of h)) (length c.accepted) c.rx_deliv ++ done_text in
-    let totals : Totals h last =
+    let last : List ℕ = totals_text (totals_at c (key_of c.table.bearer)) ++ done_text in
+    let totals : Totals c h last =
     record {
       bearer = λ key own.
-          let book = leads_book h c g.plays.leads key (subst (λ (t : BearerTable). IsKey t key) (sym (leads_table h c g.plays.leads)) own) in
-          ap (λ (n : ℕ). totals_text (table_of (stage_of h)) n c.rx_deliv ++ done_text) (ap length (sym book.0)) ∙ ap (λ (n : ℕ). totals_text (table_of (stage_of h)) (length (submitted key h)) n ++ done_text) (sym book.1);
-      none = λ none. ap (λ (l : List ℕ). l ++ done_text) (no_totals (table_of (stage_of h)) (length c.accepted) c.rx_deliv none);
+          let book = leads_book h p.stage c g.plays key own in
+          ap (λ (o : Option Key). totals_text (totals_at c o) ++ done_text) (key_is c.table key own)
+          ∙ (ap (λ (n : ℕ). totals_text (both key n c.rx_deliv (confirmed_number c)) ++ done_text) (ap length (sym book.0))
+          ∙ (ap (λ (n : ℕ). totals_text (both key (length (submitted key h)) n (confirmed_number c)) ++ done_text) (sym book.1)
+          ∙ ap (λ (n : ℕ). totals_text (both key (length (submitted key h)) (length (handed key h)) n) ++ done_text) (sym book.2)));
+      none = λ none. none_told c c.table.bearer none;
     } in
-    let is : totals_text (table_of p.stage) (length c.accepted) c.rx_deliv ++ done_text ≡ last = ap (λ (t : ScriptStage). totals_text (table_of t) (length c.accepted) c.rx_deliv ++ done_text) g.plays.stage in
-    let text : out' ≡ trace h ++ last = said.1 ∙ (append_assoc out _ done_text ∙ (ap (λ (l : List ℕ). out ++ l) is ∙ ap (λ (l : List ℕ). l ++ last) g.written)) in
-    let why' : (is_ended (stage_of h) ≡ true) ⊎ ((is_running (stage_of h) ≡ true) × (rest ≡ [])) =
-    subst (λ (t : ScriptStage). (is_ended t ≡ true) ⊎ ((is_running t ≡ true) × (rest ≡ []))) g.plays.stage why in
-    subst (λ (e : Ending). IsRun input e out') (sym said.0)
-    (run_stops input rest number p out out' Done g (why', last, totals, text))
+    let text : out' ≡ trace h ++ last = said ∙ (append_assoc out _ done_text ∙ ap (λ (l : List ℕ). l ++ last) g.written) in
+    run_stops input rest number p out out' Done g (why, last, totals, text)
 
 -- what is written where a run stops at a bad line
-module _ (input rest : List ℕ) (number : ℕ) (p : Player) (out out' : List ℕ) (g : IsGoing input rest number p out) (going : is_ended p.stage ≡ false) where
-  still : is_ended (stage_of g.history) ≡ false
-  still = ap is_ended (sym g.plays.stage) ∙ going
-
+module _ (input rest : List ℕ) (number : ℕ) (p : Player) (out out' : List ℕ) (g : IsGoing input rest number p out) (going : is_ended p.stage.part ≡ false) where
   bad_so : (reason : List ℕ) → out' ≡ out ++ bad_text number reason → out' ≡ trace g.history ++ bad_text (length g.texts + 1) reason
   bad_so reason said = said ∙ (ap (λ (l : List ℕ). l ++ bad_text number reason) g.written ∙ ap (λ (n : ℕ). trace g.history ++ bad_text n reason) g.counted)
 
-  pub run_long : IsLong (length input - length rest) rest → out' ≡ out ++ bad_text number (codes "later") → IsRun input Later out'
-  run_long long said = run_stops input rest number p out out' Later g (still, inl long, bad_so (codes "later") said)
+  pub run_bad : (why : Reason) → IsBadNext p.stage (length input - length rest) rest why → out' ≡ out ++ bad_text number (reason_text why) → IsRun input (Bad why) out'
+  run_bad why bad said = run_stops input rest number p out out' (Bad why) g (going, bad, bad_so (reason_text why) said)
 
-  pub run_later : (text after : List ℕ) → Splits rest text after → length text ≤ 65536 → is_skipped text ≡ false → MayNotStand text (stage_of g.history) → out' ≡ out ++ bad_text number (codes "later") → IsRun input Later out'
-  run_later text after splits short whole none said = run_stops input rest number p out out' Later g (still, inr (text, (after, splits, short, whole), none), bad_so (codes "later") said)
-
-  pub run_no_go : rest ≡ [] → is_running p.stage ≡ false → out' ≡ out ++ bad_text number (codes "end") → IsRun input NoGo out'
-  run_no_go none stands said = run_stops input rest number p out out' NoGo g (still, ap is_running (sym g.plays.stage) ∙ stands, none, bad_so (codes "end") said)
+  pub run_later : (text after : List ℕ) → Splits rest text after → length text ≤ 65536 → IsLater p.stage text → out' ≡ out ++ bad_text number (codes "later") → IsRun input Later out'
+  run_later text after splits short later said = run_stops input rest number p out out' Later g (going, text, (after, splits, short), later, bad_so (codes "later") said)
 
   pub run_too_long : IsTooLong (length input - length rest) rest → out' ≡ out ++ too_long_text → IsRun input TooLong out'
-  run_too_long long said = run_stops input rest number p out out' TooLong g (still, long, said ∙ ap (λ (l : List ℕ). l ++ too_long_text) g.written)
+  run_too_long long said = run_stops input rest number p out out' TooLong g (going, long, said ∙ ap (λ (l : List ℕ). l ++ too_long_text) g.written)
+
+-- a line of at most 65,536 bytes is bad for a reason of its own
+pub bad_next : (stage : ScriptStage) (used : ℕ) (rest text after : List ℕ) (why : Reason) → Splits rest text after → length text ≤ 65536 → IsFirst (IsBad stage text) (reasons text) why → IsBadNext stage used rest why
+bad_next stage used rest text after reason.Line splits short first = absurd (too_short (reasons text) first)
+  where
+    too_short : (rs : List Reason) → IsFirst (IsBad stage text) rs reason.Line → ⊥
+    too_short [] x = x
+    too_short (r ∷ rs) (inl x) = omega (arith, short, subst (IsBad stage text) (sym x.0) x.1)
+    too_short (r ∷ rs) (inr x) = too_short rs x.1
+bad_next stage used rest text after reason.End splits short first = absurd (no_end (reasons text) first)
+  where
+    no_end : (rs : List Reason) → IsFirst (IsBad stage text) rs reason.End → ⊥
+    no_end [] x = x
+    no_end (r ∷ rs) (inl x) = subst (IsBad stage text) (sym x.0) x.1
+    no_end (r ∷ rs) (inr x) = no_end rs x.1
+bad_next stage used rest text after why splits short first = (text, (after, splits, short), first)
+
+-- how a run ends at a line, and at the input's end
+module _ (input rest : List ℕ) (number : ℕ) (p : Player) (out out' : List ℕ) (g : IsGoing input rest number p out) (going : is_ended p.stage.part ≡ false) where
+  pub run_turns : (text after : List ℕ) → Splits rest text after → length text ≤ 65536 → (p' : Player) (ending : Ending) → TurnsAt text g.history p.stage number (Some ending) p' out' → IsRun input ending out'
+  run_turns text after splits short p' Later x = run_later input rest number p out out' g going text after splits short x.0 (x.1 ∙ ap (λ (l : List ℕ). l ++ bad_text number (codes "later")) (sym g.written))
+  run_turns text after splits short p' (Bad why) x =
+      run_bad input rest number p out out' g going why (bad_next p.stage (length input - length rest) rest text after why splits short x.0) (x.1 ∙ ap (λ (l : List ℕ). l ++ bad_text number (reason_text why)) (sym g.written))
+  run_turns text after splits short p' Done x = absurd x
+  run_turns text after splits short p' TooLong x = absurd x
+
+  pub run_over : (ending : Ending) → rest ≡ [] → StopsAtEnd p number out ending out' → IsRun input ending out'
+  run_over Done none x = run_done input rest number p out out' g (inr (x.0, none)) x.1
+  run_over (Bad reason.End) none x = run_bad input rest number p out out' g going reason.End (x.0, none) x.1
+  run_over (Bad why) none x = absurd x
+  run_over Later none x = absurd x
+  run_over TooLong none x = absurd x
+
+-- a line behind which a run goes on
+pub run_on : (input rest text after : List ℕ) (number : ℕ) (p p' : Player) (out out' : List ℕ) (g : IsGoing input rest number p out) → Splits rest text after → EndsInTime (length input - length rest) rest text after
+    → TurnsAt text g.history p.stage number None p' out' → Fits p'.session → IsGoing input after (number + 1) p' out'
+run_on input rest text after number p p' out out' g splits time (inl x) fits = going_on input rest text after number p p' out out' progress.Skipped g splits time x fits (inl refl)
+run_on input rest text after number p p' out out' g splits time (inr x) fits = going_on input rest text after number p p' out out' progress.Carried g splits time x fits (inr refl)
 
 -- the same run, seen in other terms
 pub run_as : (input input' : List ℕ) (ending : Ending) (text text' : List ℕ) → input ≡ input' → text' ≡ text → IsRun input ending text → IsRun input' ending text'

@@ -1,6 +1,7 @@
 pub mod Receiving
 pub mod Passing
-pub mod Hearing
+pub mod OnAir
 pub mod Carrying
 pub mod Going
+pub mod Commands
 pub mod Complete

@@ -1,5 +1,5 @@
 -- What a PDCP receiver did, seen as a step of the chain.
-use Rattle.std.proofs.Common.{◌≡◌, ℕ, List, [], ap, sym, ◌∙◌, refl, subst, inl, inr}
+use Rattle.std.proofs.Common.{◌≡◌, ℕ, List, ap, ◌∙◌, refl, inl, inr}
 use Rattle.std.specs.declared.option.Option.{Option}
 use Rattle.link_base.specs.declared.names.SnSize.TheVariants.{S12}
 use Rattle.link_base.specs.declared.names.Key.{Key}
@@ -8,7 +8,7 @@ use Rattle.pdcp_pdu.specs.Pdcp.Pdcp.{Sdu}
 use Rattle.rlc_model.specs.declared.receiver.Heard.TheVariants.{Complete}
 use Rattle.script_text.specs.declared.event.Event.{Event}
 use Rattle.script_text.specs.declared.reply.Reply.{Reply}
-use Rattle.script_text.specs.declared.reply.Reply.TheVariants.{OkUp, OkWaiting, OkOld, OkTwice, OkNoCount}
+use Rattle.script_text.specs.declared.reply.Reply.TheVariants.{OkUp, OkWaiting, OkOld, OkTwice}
 use Rattle.chain_model.specs.Chain.{Chain}
 use Rattle.chain_model.specs.Steps.{HearsCount, HearsSdu, Passes}
 use Rattle.player.specs.Receives.{Receives, ReceivesCount}

@@ -1,8 +1,10 @@
-pub mod Air
+pub mod Commands
+pub mod Ended
+pub mod Finishes
 pub mod Outcome
+pub mod Playable
 pub mod Plays
 pub mod Receives
 pub mod Runs
-pub mod SentPdu
 pub mod Session
-pub mod Playable
+pub mod Turns

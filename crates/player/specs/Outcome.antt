@@ -1,10 +1,12 @@
 -- What the top call makes of a source, a sink and its words.
-use Rattle.std.specs.Prelude.{◌≡◌, ℕ, ◌<◌, ◌≤◌, List, [], ◌∷◌, ◌++◌, length, codes}
+use Rattle.std.specs.Prelude.{◌≡◌, ◌⊎◌, ℕ, ◌<◌, ◌≤◌, Bool, true, false, List, [], ◌∷◌, ◌++◌, length, codes}
 use Rattle.std.specs.declared.option.Option.{Option}
-use Rattle.std.specs.Io.KnownBytes.{Consumes, Appends, IsAtEnd}
+use Rattle.std.specs.Io.KnownBytes.{Consumes, Keeps, Appends, IsAtEnd}
 use Rattle.link_io.specs.Bytes.{AppendsFront}
+use Rattle.pdu_text.specs.declared.form.Form.{Form}
+use Rattle.pdu_text.specs.Explains.{Explains}
 use Rattle.player.specs.declared.play.Ending.{Ending}
-use Rattle.player.specs.declared.play.Ending.TheVariants.{Done, Later, NoGo, TooLong}
+use Rattle.player.specs.declared.play.Ending.TheVariants.{Done, Later, Bad, TooLong}
 use Rattle.player.specs.Runs.{IsRun, IsScript}
 
 -- these bytes were read: all there were, or the longest script and one byte more
@@ -35,8 +37,25 @@ pub record IsCutOff (left left' written written' : Option (List ℕ)) : Type 0 w
 abbrev pub status_of : Ending → ℕ
 status_of Done = 0
 status_of Later = 1
-status_of NoGo = 1
+status_of (Bad reason) = 1
 status_of TooLong = 6
 
 abbrev pub usage_text : List ℕ
 usage_text = codes "usage: relayplay play | work | show FORM HEX | load N" ++ 10 ∷ []
+
+-- the status of bytes that are a PDU of the form, or aren't
+abbrev pub show_status : Bool → ℕ
+show_status true = 0
+show_status false = 7
+
+-- the explanation of the bytes in this form was written: the fields of the PDU that they spell, or why they spell none
+pub record IsShown (form : Form) (bytes : List ℕ) (status : ℕ) (written written' : Option (List ℕ)) : Type 0 where
+  pub read : Bool
+  pub text : List ℕ
+  pub explains : Explains form bytes read text
+  pub its_status : status ≡ show_status read
+  pub is_written : Appends written written' text
+
+-- nothing was written, or a front of the explanation
+abbrev pub IsShownInPart : Form → List ℕ → Option (List ℕ) → Option (List ℕ) → Type 0
+IsShownInPart form bytes written written' = Keeps written written' ⊎ ((read : Bool) × (text : List ℕ) × Explains form bytes read text × AppendsFront written written' text)

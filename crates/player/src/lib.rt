@@ -1,26 +1,30 @@
 //! Plays a script: reads it, carries its lines out and writes the trace.
 #![tactic(auto)]
 
-mod air;
 mod answer;
+mod carried;
+mod command;
+mod hearing;
 mod laws;
 mod play;
 mod player_state;
+mod reading;
 mod receiver;
-mod sent_pdu;
 mod session;
+mod shown;
+mod telling;
 mod top_call;
 
 pub use answer::Answer;
+pub use command::Command;
+pub use hearing::Hearing;
 pub use laws::scripts_end;
 pub use play::{Ending, play_script};
 pub use player_state::{Player, Progress};
 pub use receiver::Receiver;
-use sent_pdu::SentPdu;
 pub use session::Session;
+pub use shown::show;
 pub use top_call::{RunFault, run, top};
 
-#[cfg(test)]
-mod segment_tests;
 #[cfg(test)]
 mod tests;

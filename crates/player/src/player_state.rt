@@ -1,7 +1,8 @@
 // A player reads one line after the other.
 use crate::Session;
+use crate::carried::{is_carried, table};
 use link_base::Memory;
-use script_text::{BearerTable, Line, ScriptStage, is_skipped, parse_line, push_answer};
+use script_text::{Line, LineFault, Part, Reason, ScriptStage, parse_line, push_answer};
 use std::alloc::Global;
 
 /// What became of a line.
@@ -11,8 +12,10 @@ pub enum Progress {
     Skipped,
     /// It was carried out.
     Carried,
-    /// It isn't spelt as any line that may stand here.
-    Bad,
+    /// It is a line of a script, but of a form that isn't carried out yet.
+    Later,
+    /// It is no line of a script, for this reason.
+    Bad(Reason),
 }
 
 /// A script that is under way.
@@ -25,11 +28,13 @@ pub struct Player {
 }
 
 impl Player {
-    ghost use Rattle.std.specs.Prelude.{◌≡◌, List, [], ◌∷◌, IfOk, OnOk, string_bytes};
-    ghost use Rattle.std.specs.declared.option.Option.TheVariants.{Some};
-    ghost use Rattle.script_text.specs.Stages.{stage_after};
+    ghost use Rattle.std.specs.Prelude.{◌≡◌, ◌++◌, List, [], IfOk, OnOk, string_bytes};
+    ghost use Rattle.script_text.specs.Texts.{entry_text, is_running};
     ghost use Rattle.script_text.specs.History.{Entry, trace};
+    ghost use Rattle.chain_model.specs.Tables.{table_of, contents};
+    ghost use Rattle.chain_model.specs.Steps.{Step};
     ghost use Rattle.chain_law.specs.Fits.{Fits};
+    ghost use Rattle.player.specs.Ended.{is_ended};
     ghost use Rattle.player.specs.Playable.{IsPlayable};
     ghost use Rattle.player.specs.Plays.{Plays, Reads};
 
@@ -38,51 +43,56 @@ impl Player {
         ensures plays { IfOk result (λ player. Plays player []) }
         ensures fits { IfOk result (λ player. Fits player.session) }
     {
-        Ok(Player {
-            stage: ScriptStage::Start,
-            session: Session::new(alloc, BearerTable::Empty)?,
-        })
+        let stage = ScriptStage::new(alloc)?;
+        let session = Session::new(alloc, table(&stage))?;
+        Ok(Player { stage, session })
+    }
+
+    /// Whether an `end` line was carried out.
+    pub fn has_ended(&self) -> bool
+        ensures { result ≡ is_ended self.now.stage.part }
+    {
+        matches!(self.stage.part(), Part::Ended)
+    }
+
+    /// Whether the script stands behind `go`, and before an `end` line.
+    pub fn is_running(&self) -> bool
+        ensures { result ≡ is_running self.now.stage.part }
+    {
+        matches!(self.stage.part(), Part::Running)
     }
 
     /// Reads a line, carries it out, and adds what it prints to the text.
-    #[tactic(auto, using(script_text::proofs::OneLine::one_line))]
     pub fn read(&mut self, alloc: Global, out: &mut String, text: &[u8]) -> Result<Progress, Memory>
         requires fits { Fits self.old.session }
         ensures reads { (h : List Entry) → Plays self.old h → string_bytes out.old ≡ trace h →
-            IfOk result (λ progress. Reads text.now h progress self.new (string_bytes out.new)) }
+            IfOk result (λ progress. Reads text.now h self.old.stage progress self.new (string_bytes out.new)) }
         ensures fits { OnOk result (Fits self.new.session) }
     {
-        if is_skipped(text) {
-            return Ok(Progress::Skipped);
+        match parse_line(alloc, &mut self.stage, text) {
+            Ok(None) => Ok(Progress::Skipped),
+            Err(LineFault::Bad(reason)) => Ok(Progress::Bad(reason)),
+            Err(LineFault::Memory) => Err(Memory),
+            Ok(Some(line)) => {
+                if !is_carried(&self.stage, &line) {
+                    return Ok(Progress::Later);
+                }
+                self.carry(alloc, out, &line)?;
+                Ok(Progress::Carried)
+            }
         }
-        let Some(line) = parse_line(alloc, text)? else {
-            return Ok(Progress::Bad);
-        };
-        let Some(stage) = self.stage.after(&line) else {
-            return Ok(Progress::Bad);
-        };
-        self.carry(alloc, out, &line, stage)?;
-        Ok(Progress::Carried)
     }
 
-    /// Carries out a line that may stand here, and adds what it prints to the text.
-    fn carry(
-        &mut self,
-        alloc: Global,
-        out: &mut String,
-        line: &Line,
-        stage: ScriptStage,
-    ) -> Result<(), Memory>
+    /// Carries out a line, behind which the script stands at the stage, and adds what it prints to the text.
+    fn carry(&mut self, alloc: Global, out: &mut String, line: &Line) -> Result<(), Memory>
         requires fits { Fits self.old.session }
         requires playable { IsPlayable line.now }
-        requires stands { stage_after self.old.stage line.now ≡ Some stage }
-        ensures carried { (h : List Entry) → Plays self.old h → string_bytes out.old ≡ trace h →
-            OnOk result ((events : _) × (reply : _) × Plays self.new (record { line = line.now; events = events; reply = reply } ∷ h)
-            × (string_bytes out.new ≡ trace (record { line = line.now; events = events; reply = reply } ∷ h))) }
+        ensures carried { OnOk result ((events : _) × (reply : _) × Step (table_of (contents self.old.stage)) self.old.session line.now events reply self.new.session
+            × (string_bytes out.new ≡ string_bytes out.old ++ entry_text line.now events reply)) }
+        ensures stage { OnOk result (self.new.stage ≡ self.old.stage) }
         ensures fits { OnOk result (Fits self.new.session) }
     {
-        let answer = self.session.carry(stage.table(), line)?;
-        self.stage = stage;
+        let answer = self.session.carry(table(&self.stage), line)?;
         push_answer(alloc, out, line, answer.events.as_slice(), &answer.reply)?;
         Ok(())
     }

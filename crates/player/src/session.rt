@@ -1,26 +1,27 @@
 // A bearer on its direct path: its sending end, its receiving end, and the PDUs between them.
-ghost use Rattle.std.specs.Prelude.{◌≡◌, ◌≤◌, ◌<◌, ℕ, List, true, IfOk};
-ghost use Rattle.std.specs.declared.option.Option.TheVariants.{Some};
-ghost use Rattle.script_text.specs.Stages.{is_served};
-ghost use Rattle.chain_model.specs.Chain.{direct_size};
-ghost use Rattle.chain_model.specs.Steps.{IsKey, tag_of};
-ghost use Rattle.pdcp_pdu.specs.Pdcp.{IsPdcp};
-ghost use Rattle.pdcp_pdu.specs.Pdcp.Pdcp.{Sdu};
-ghost use Rattle.player.specs.Playable.{IsSduPdu, IsWant};
-
-use crate::air::Air;
-use crate::{Answer, Receiver, SentPdu};
-use link_base::{Bytes, Drb, Key, Memory, PortName, Remote, SduList, SnSize, Tag, Way, copy_bytes};
-use pdcp_pdu::{PdcpView, decode_pdcp, encode_pdcp};
-use rlc_am_rx::{AmRx, Heard};
-use rlc_am_tx::{AmTx, GiveFault, TxGrant};
+use crate::reading::{read_sdu, read_status, want_of};
+use crate::telling::{confirm, direct_size, key_of, say, tag_of, unheard};
+use crate::{Answer, Hearing, Receiver};
+use chain_model::BearerTable;
+use link_base::{
+    Bytes, Drb, Expired, Key, Memory, PortName, Remote, SduList, Side, SnSize, Timer, Way,
+    copy_bytes,
+};
+use pdcp_pdu::{PdcpView, encode_pdcp};
+use rlc_am_rx::{AmRx, Heard, Made};
+use rlc_am_tx::{AmTx, TxGrant};
+use rlc_hop::{Air, Pdu, may_pass};
 use rlc_pdu::decode_amd;
-use script_text::{BearerTable, Line, Reply};
+use rlc_status::encode_status;
+use script_text::{Line, Reply};
 use std::alloc::Global;
 use std::marker::Model;
 
 /// The greatest number of SDUs that may be unconfirmed with 12-bit sequence numbers.
-const MOST_SDUS: usize = 2048;
+const MOST_UNCONFIRMED: u64 = 2048;
+
+/// The greatest number of SDUs, since COUNT ends below it.
+const MOST_SDUS: u64 = 4_294_967_295;
 
 /// The greatest number of bytes of a PDCP SDU (TS 38.323 clause 4.3.1).
 const LONGEST_SDU: usize = 9000;
@@ -31,75 +32,8 @@ const MOST_ON_AIR: u64 = 16_384;
 /// The greatest number of tickets.
 const MOST_TICKETS: u64 = 2_305_843_009_213_693_952;
 
-/// A poll comes at the latest with so many PDUs (pollPDU, TS 38.322 clause 7.4).
-const POLL_PDU: u32 = 32;
-
-/// So many bytes make no poll (pollByte, TS 38.322 clause 7.4).
-const POLL_BYTE: u32 = 0;
-
-/// A number is marked at so many retransmissions (maxRetxThreshold, TS 38.322 clause 7.4).
-const MAX_RETX: u8 = 32;
-
-/// The size of the RLC sequence numbers on the bearer's direct port.
-fn direct_size(table: BearerTable) -> SnSize
-    ensures { result ≡ direct_size table }
-{
-    match table {
-        BearerTable::Bearer(_, _, size) => size,
-        _ => SnSize::S12,
-    }
-}
-
-/// The key of the bearer.
-fn key_of(table: BearerTable) -> Key
-    requires { is_served table ≡ true }
-    ensures { IsKey table result }
-{
-    match table {
-        BearerTable::Bearer(remote, drb, _) => Key {
-            remote,
-            drb,
-            way: Way::Ul,
-        },
-        _ => unreachable!(),
-    }
-}
-
-/// What the transmitter keeps beside the PDCP PDU of a COUNT.
-fn tag_of(key: Key, count: u32) -> Tag
-    ensures { result ≡ tag_of key count }
-{
-    Tag {
-        key,
-        count: Some(count),
-        ue: None,
-    }
-}
-
-/// Why a transmitter with room didn't take an SDU: memory was refused.
-fn want_of(fault: GiveFault) -> Memory
-    requires { IsWant fault }
-{
-    match fault {
-        GiveFault::Memory(_) => Memory,
-        GiveFault::NoRoom(_) => unreachable!(),
-    }
-}
-
-/// The SN and the SDU of a PDCP data PDU.
-fn sn_and_sdu(alloc: Global, pdu: &[u8]) -> Result<(u32, Bytes), Memory>
-    requires { IsSduPdu pdu.now }
-    ensures reads { IfOk result (λ read. IsPdcp SnSize.S12 (Sdu read.0 read.1) pdu.now) }
-    ensures small { IfOk result (λ read. read.0 < 4096) }
-{
-    match decode_pdcp(SnSize::S12, pdu) {
-        Ok(PdcpView::Sdu { sn, body }) => {
-            let sdu = copy_bytes(alloc, body)?;
-            Ok((sn, sdu))
-        }
-        _ => unreachable!(),
-    }
-}
+/// The epoch in which both ends stand, since no path is switched.
+const EPOCH: u32 = 0;
 
 /// A bearer's two ends on its direct path, where its SDUs go uplink.
 #[derive(Drop)]
@@ -127,13 +61,16 @@ impl Model for Session {
 }
 
 impl Session {
-    ghost use Rattle.std.specs.Prelude.{◌≢◌, [], length, is_some, if◌then◌else◌};
-    ghost use Rattle.script_text.specs.Stages.{has_bearer, has_port};
-    ghost use Rattle.chain_model.specs.Chain.{opened, pdu_of};
-    ghost use Rattle.chain_model.specs.Steps.{submit_refusal, grant_refusal, Unless, Accepts, Granted, HearsTicket, Passes, Step, without};
-    ghost use Rattle.rlc_model.specs.declared.receiver.Heard.{Heard as Answered};
+    ghost use Rattle.std.specs.Prelude.{◌≡◌, ◌≢◌, ◌≤◌, ◌<◌, ◌^◌, ◌++◌, ◌∷◌, [], ℕ, true, false, length, IfOk, IfErr, OnOk, if◌then◌else◌, ◌+◌};
+    ghost use Rattle.std.specs.declared.option.Option.TheVariants.{Some, None};
+    ghost use Rattle.chain_model.specs.Tables.{has_bearer, has_port};
+    ghost use Rattle.chain_model.specs.Chain.{opened, confirmed, pdu_of};
+    ghost use Rattle.rlc_model.specs.Tx.{tx_next_ack};
+    ghost use Rattle.rlc_model.specs.Rx.{rx_next};
+    ghost use Rattle.chain_model.specs.Steps.{on_air, submit_refusal, grant_refusal, expire_refusal, without, sent, Unless, Accepts, Granted, GrantedData, HearsEntry, Passes, Loses, ExpiresAt, Expires, Step};
     ghost use Rattle.chain_law.specs.Fits.{Fits};
-    ghost use Rattle.player.specs.Playable.{IsPlayable, IsReadable};
+    ghost use Rattle.player.specs.Finishes.{key_of};
+    ghost use Rattle.player.specs.Playable.{IsPlayable, IsReadable, IsHearable, HearsKind, Hears, refusal_of};
 
     /// A session behind tables that were just closed.
     pub fn new(alloc: Global, table: BearerTable) -> Result<Self, Memory>
@@ -144,11 +81,25 @@ impl Session {
             alloc,
             table,
             accepted: SduList::new(alloc),
-            tx: AmTx::new(alloc, size, POLL_PDU, POLL_BYTE, MAX_RETX)?,
-            air: Air::new(alloc),
+            tx: AmTx::new(alloc, size, table.poll_pdu, table.poll_byte, table.max_retx)?,
+            air: Air::new(alloc)?,
             rx: AmRx::new(alloc, size)?,
             receiver: Receiver::new(alloc),
         })
+    }
+
+    /// The key of the bearer, where there is one.
+    pub fn key(&self) -> Option<Key>
+        ensures { result ≡ key_of self.now.table.bearer }
+    {
+        match self.table.bearer {
+            Some(bearer) => Some(Key {
+                remote: bearer.remote,
+                drb: bearer.drb,
+                way: Way::Ul,
+            }),
+            None => None,
+        }
     }
 
     /// How many SDUs were accepted.
@@ -165,12 +116,19 @@ impl Session {
         self.receiver.rx_deliv
     }
 
+    /// How many of the first SDUs are confirmed.
+    pub fn confirmed(&self) -> u64
+        ensures { result ≡ confirmed self.now }
+    {
+        self.tx.next_ack()
+    }
+
     fn has_bearer(&self, remote: Remote, drb: Drb) -> bool
         ensures { result ≡ has_bearer self.now.table remote.0 drb.0 }
     {
-        match self.table {
-            BearerTable::Bearer(own, its_drb, _) => own == remote && its_drb == drb,
-            _ => false,
+        match self.table.bearer {
+            Some(bearer) => bearer.remote == remote && bearer.drb == drb,
+            None => false,
         }
     }
 
@@ -195,8 +153,13 @@ impl Session {
         if sdu.len() > LONGEST_SDU {
             return Some(Reply::Long);
         }
-        if self.accepted.len() == MOST_SDUS {
-            return Some(Reply::Full(0));
+        let accepted = self.accepted.len() as u64;
+        if accepted == MOST_SDUS {
+            return Some(Reply::Spent);
+        }
+        let confirmed = self.tx.next_ack();
+        if accepted >= MOST_UNCONFIRMED && accepted - MOST_UNCONFIRMED == confirmed {
+            return Some(Reply::Full(confirmed));
         }
         None
     }
@@ -205,7 +168,7 @@ impl Session {
     fn submit(&mut self, key: Key, sdu: &[u8]) -> Result<Reply, Memory>
         requires fits { Fits self.old }
         requires way { key.way ≡ Way.Ul }
-        ensures { IfOk result (λ reply. Unless (submit_refusal self.old key sdu.now) self.old reply self.new (Accepts self.old key sdu.now reply self.new)) }
+        ensures { IfOk result (λ reply. Unless (submit_refusal self.old key sdu.now) self.old [] reply self.new (Accepts self.old key sdu.now [] reply self.new)) }
     {
         if let Some(refusal) = self.submit_refusal(key, sdu) {
             return Ok(refusal);
@@ -218,11 +181,11 @@ impl Session {
         requires fits { Fits self.old }
         requires way { key.way ≡ Way.Ul }
         requires meant { submit_refusal self.old key sdu.now ≡ None }
-        ensures { IfOk result (λ reply. Accepts self.old key sdu.now reply self.new) }
+        ensures { IfOk result (λ reply. Accepts self.old key sdu.now [] reply self.new) }
     {
         let count = self.accepted.len() as u32;
         let data = PdcpView::Sdu {
-            sn: count,
+            sn: count % 4096,
             body: sdu,
         };
         let pdu = encode_pdcp(self.alloc, SnSize::S12, &data)?;
@@ -249,55 +212,134 @@ impl Session {
         None
     }
 
-    /// The sending end may send a PDU of at most so many bytes.
+    /// One end may send a PDU of at most so many bytes.
     fn grant(&mut self, port: PortName, way: Way, n: u32) -> Result<Reply, Memory>
-        requires fits { Fits self.old }
-        requires way { way ≡ Way.Ul }
-        ensures { IfOk result (λ reply. Unless (grant_refusal self.old port) self.old reply self.new (Granted self.old port way n reply self.new)) }
+        requires { Fits self.old }
+        ensures { IfOk result (λ reply. Unless (grant_refusal self.old port) self.old [] reply self.new (Granted way self.old port n reply self.new)) }
     {
         if let Some(refusal) = self.grant_refusal(port) {
             return Ok(refusal);
         }
-        self.send(port, way, n)
+        match way {
+            Way::Ul => self.send(port, n),
+            Way::Dl => self.report(port, n),
+        }
     }
 
     /// The transmitter may send a PDU, which goes on the air.
-    fn send(&mut self, port: PortName, way: Way, n: u32) -> Result<Reply, Memory>
-        requires way { way ≡ Way.Ul }
-        requires meant { grant_refusal self.old port ≡ None }
-        ensures { IfOk result (λ reply. Granted self.old port way n reply self.new) }
+    fn send(&mut self, port: PortName, n: u32) -> Result<Reply, Memory>
+        requires { grant_refusal self.old port ≡ None }
+        ensures { IfOk result (λ reply. GrantedData self.old port n reply self.new) }
     {
         match self.tx.grant(n)? {
             TxGrant::Idle => Ok(Reply::Idle),
             TxGrant::Small { need } => Ok(Reply::Small(need)),
-            TxGrant::Sent { number, bytes } => {
-                let copy = copy_bytes(self.alloc, bytes.as_slice())?;
-                let pdu = SentPdu {
-                    port,
-                    way,
-                    status: false,
-                    number,
-                    bytes: copy,
-                };
-                let ticket = self.air.put(pdu)?;
-                Ok(Reply::Air {
-                    ticket,
-                    status: false,
-                    number,
-                    bytes,
-                })
+            TxGrant::Sent { number, bytes } => self.put(port, Way::Ul, false, number, bytes),
+        }
+    }
+
+    /// The receiver may send a STATUS PDU, which goes on the air.
+    fn report(&mut self, port: PortName, n: u32) -> Result<Reply, Memory>
+        requires fits { Fits self.old }
+        requires meant { grant_refusal self.old port ≡ None }
+        ensures { IfOk result (λ reply. Granted Way.Dl self.old port n reply self.new) }
+    {
+        if !self.rx.status_due() {
+            return Ok(Reply::Idle);
+        }
+        match self.rx.make_status(n)? {
+            Made::Small { need } => Ok(Reply::Small(need)),
+            Made::Full { status, ack } => {
+                let bytes = encode_status(self.alloc, direct_size(self.table), &status)?;
+                self.put(port, Way::Dl, true, ack, bytes)
             }
         }
     }
 
-    /// The receiving end hears the PDU of a ticket, where it is on the air.
-    fn hear(&mut self, ticket: u64) -> Result<Answer, Memory>
+    /// A PDU goes on the air.
+    fn put(
+        &mut self,
+        port: PortName,
+        way: Way,
+        status: bool,
+        number: u64,
+        bytes: Bytes,
+    ) -> Result<Reply, Memory>
+        requires tickets { length self.old.air < 2 ^ 61 }
+        requires room { on_air self.old < 16384 }
+        ensures { IfOk result (λ reply. (reply ≡ Reply.Air (length self.old.air + 1) status number bytes) × (self.new ≡ sent self.old port way status number bytes)) }
+    {
+        let copy = copy_bytes(self.alloc, bytes.as_slice())?;
+        let pdu = Pdu {
+            port,
+            way,
+            epoch: EPOCH,
+            status,
+            number,
+            bytes: copy,
+        };
+        let ticket = self.air.put(pdu)?;
+        Ok(Reply::Air {
+            ticket,
+            status,
+            number,
+            bytes,
+        })
+    }
+
+    /// The number below which PDUs are stale: of STATUS PDUs TX_Next_Ack, of data PDUs RX_Next.
+    fn next_for(&self, status: bool) -> u64
+        ensures { result ≡ (if status then tx_next_ack self.now.tx else rx_next self.now.rx) }
+    {
+        if status {
+            self.tx.next_ack()
+        } else {
+            self.rx.next()
+        }
+    }
+
+    /// Whether the PDU of a ticket, which can be heard, is a STATUS PDU; or why it can't be heard.
+    fn kind(&self, ticket: u64) -> Result<bool, Reply>
+        requires { Fits self.now }
+        ensures heard { IfOk result (IsHearable self.now ticket) }
+        ensures refused { IfErr result (λ reply. refusal_of self.now (pdu_of self.now ticket) ≡ Some reply) }
+    {
+        let Some(pdu) = self.air.get(ticket) else {
+            return Err(Reply::NoAir);
+        };
+        let next = self.next_for(pdu.status);
+        match may_pass(pdu, Some(EPOCH), next, direct_size(self.table)) {
+            Ok(()) => Ok(pdu.status),
+            Err(fault) => Err(unheard(fault)),
+        }
+    }
+
+    /// The PDU of a ticket is heard, where it is on the air and isn't stale.
+    fn hear(&mut self, ticket: u64) -> Result<Hearing, Memory>
         requires fits { Fits self.old }
-        requires ticket { 1 ≤ ticket }
-        ensures { IfOk result (λ a. HearsTicket self.old (pdu_of self.old ticket) a.events a.reply self.new) }
+        ensures { IfOk result (λ hearing. Hears self.old (pdu_of self.old ticket) hearing self.new) }
+    {
+        match self.kind(ticket) {
+            Err(refusal) => Ok(Hearing::Refused(refusal)),
+            Ok(false) => {
+                let answer = self.hear_data(ticket)?;
+                Ok(Hearing::Heard(answer))
+            }
+            Ok(true) => {
+                let answer = self.hear_report(ticket)?;
+                Ok(Hearing::Heard(answer))
+            }
+        }
+    }
+
+    /// The receiving end hears a data PDU.
+    fn hear_data(&mut self, ticket: u64) -> Result<Answer, Memory>
+        requires fits { Fits self.old }
+        requires hearable { IsHearable self.old ticket false }
+        ensures { IfOk result (λ a. HearsKind self.old ticket false a.events a.reply self.new) }
     {
         match self.air.get(ticket) {
-            None => Ok(Answer::plain(self.alloc, Reply::NoAir)),
+            None => unreachable!(),
             Some(sent) => match decode_amd(direct_size(self.table), sent.bytes.as_slice()) {
                 Err(_) => unreachable!(),
                 Ok(pdu) => {
@@ -312,7 +354,7 @@ impl Session {
     /// An SDU that the RLC receiver has completed goes to the PDCP receiver.
     fn pass(&mut self, key: Key, heard: Heard) -> Result<Answer, Memory>
         requires readable { IsReadable heard }
-        requires small { self.old.rx_deliv ≤ 2048 }
+        requires small { self.old.rx_deliv ≤ 4294967295 }
         ensures { IfOk result (λ a. Passes self.old key heard a.events a.reply self.new) }
     {
         match heard {
@@ -321,34 +363,90 @@ impl Session {
             Heard::Outside => Ok(Answer::plain(self.alloc, Reply::OkOutside)),
             Heard::Conflict => Ok(Answer::plain(self.alloc, Reply::OkConflict)),
             Heard::Complete(_, pdu) => {
-                let (sn, sdu) = sn_and_sdu(self.alloc, pdu.as_slice())?;
+                let (sn, sdu) = read_sdu(self.alloc, pdu.as_slice())?;
                 self.receiver.hear(self.alloc, key, sn, sdu)
             }
         }
     }
 
-    /// The PDU of a ticket comes, and is on the air no more.
+    /// The sending end hears a STATUS PDU.
+    fn hear_report(&mut self, ticket: u64) -> Result<Answer, Memory>
+        requires fits { Fits self.old }
+        requires hearable { IsHearable self.old ticket true }
+        ensures { IfOk result (λ a. HearsKind self.old ticket true a.events a.reply self.new) }
+    {
+        match self.air.get(ticket) {
+            None => unreachable!(),
+            Some(sent) => {
+                let size = direct_size(self.table);
+                let status = read_status(self.alloc, size, sent.bytes.as_slice())?;
+                let key = key_of(self.table);
+                let before = self.tx.next_ack();
+                let answer = self.tx.hear_status(&status)?;
+                confirm(self.alloc, key, before, self.tx.next_ack(), answer)
+            }
+        }
+    }
+
+    /// The PDU of a ticket comes, and stays on the air.
+    fn repeat(&mut self, ticket: u64) -> Result<Answer, Memory>
+        requires fits { Fits self.old }
+        ensures { IfOk result (λ a. HearsEntry self.old (pdu_of self.old ticket) a.events a.reply self.new (λ c. c)) }
+    {
+        match self.hear(ticket)? {
+            Hearing::Refused(refusal) => Ok(Answer::plain(self.alloc, refusal)),
+            Hearing::Heard(answer) => Ok(answer),
+        }
+    }
+
+    /// The PDU of a ticket comes, and is on the air no more once it was heard.
     fn deliver(&mut self, ticket: u64) -> Result<Answer, Memory>
         requires fits { Fits self.old }
         requires ticket { 1 ≤ ticket }
-        ensures { IfOk result (λ a. (heard : _) × HearsTicket self.old (pdu_of self.old ticket) a.events a.reply heard × (self.new ≡ without heard ticket (pdu_of self.old ticket))) }
+        ensures { IfOk result (λ a. HearsEntry self.old (pdu_of self.old ticket) a.events a.reply self.new (without ticket)) }
     {
-        let answer = self.hear(ticket)?;
-        self.air.take_off(ticket);
-        Ok(answer)
+        match self.hear(ticket)? {
+            Hearing::Refused(refusal) => Ok(Answer::plain(self.alloc, refusal)),
+            Hearing::Heard(answer) => {
+                self.air.take(ticket);
+                Ok(answer)
+            }
+        }
     }
 
     /// The PDU of a ticket is lost.
     fn lose(&mut self, ticket: u64) -> Reply
         requires { 1 ≤ ticket }
-        ensures reply { result ≡ (if is_some (pdu_of self.old ticket) then Reply.Ok else Reply.NoAir) }
-        ensures off { self.new ≡ without self.old ticket (pdu_of self.old ticket) }
+        ensures { Loses self.old (pdu_of self.old ticket) ticket result self.new }
     {
-        if self.air.take_off(ticket) {
-            Reply::Ok
-        } else {
-            Reply::NoAir
+        match self.air.take(ticket) {
+            Some(_) => Reply::Ok,
+            None => Reply::NoAir,
         }
+    }
+
+    /// A timer of one side is to run out.
+    fn expire_at(&mut self, side: Side, timer: Timer) -> Expired
+        ensures { ExpiresAt side timer self.old result self.new }
+    {
+        match (side, timer) {
+            (Side::Low, Timer::Poll) => self.tx.expire_poll(),
+            (Side::High, Timer::Reasm) => self.rx.expire_reassembly(),
+            (Side::High, Timer::Prohibit) => self.rx.expire_prohibit(),
+            _ => Expired::Stopped,
+        }
+    }
+
+    /// A timer of a port is to run out.
+    fn expire(&mut self, port: PortName, side: Side, timer: Timer) -> Result<Answer, Memory>
+        ensures { IfOk result (λ a. Unless (expire_refusal self.old port) self.old a.events a.reply self.new (Expires self.old side timer a.events a.reply self.new)) }
+    {
+        if !self.has_port(port) {
+            return Ok(Answer::plain(self.alloc, Reply::NoPort));
+        }
+        let key = key_of(self.table);
+        let expired = self.expire_at(side, timer);
+        say(self.alloc, key, expired)
     }
 
     /// Carries a line out, with the tables as they are behind it: `go` opens a session on them, and the lines before it, and
@@ -372,11 +470,12 @@ impl Session {
                 Ok(Answer::plain(self.alloc, reply))
             }
             Line::Deliver { ticket } => self.deliver(*ticket),
-            Line::Repeat { ticket } => self.hear(*ticket),
+            Line::Repeat { ticket } => self.repeat(*ticket),
             Line::Lose { ticket } => {
                 let reply = self.lose(*ticket);
                 Ok(Answer::plain(self.alloc, reply))
             }
+            Line::Expire { port, side, timer } => self.expire(*port, *side, *timer),
             _ => Ok(Answer::plain(self.alloc, Reply::Ok)),
         }
     }

@@ -1,18 +1,28 @@
 // Whole scripts and the traces that they give.
 ghost use Rattle.std.specs.Prelude.{◌<◌};
 
-use crate::{run, top};
+mod acknowledged;
+mod long_hops;
+mod orders;
+mod refusals;
+mod segments;
+mod settings;
+mod status_sizes;
+mod windows;
+mod words;
+
+use crate::run;
 use link_base::{Bytes, Memory, NumberList, copy_bytes};
 use link_io::{MemSink, MemSource};
-use std::alloc::{AllocError, Global};
+use std::alloc::Global;
 use std::process::Abort;
 use std::test::Fail;
 
 // The tables of one bearer.
-pub(crate) const TABLES: &str = "relayscript 1\nremote 1\nbearer 1 1 12 12\ngo\n";
+const TABLES: &str = "relayscript 1\nremote 1\nbearer 1 1 12 12\ngo\n";
 
 // The same with 18-bit RLC sequence numbers.
-pub(crate) const WIDE_TABLES: &str = "relayscript 1\nremote 1\nbearer 1 1 12 18\ngo\n";
+const WIDE_TABLES: &str = "relayscript 1\nremote 1\nbearer 1 1 12 18\ngo\n";
 
 const FIRST_DELIVERY: &str =
     "relayscript 1\nremote 1\nbearer 1 1 12 12\ngo\nsubmit 1 1 ul 6869\ngrant d1.1 ul 100\ndeliver 1\nend\n";
@@ -37,7 +47,7 @@ fn play(
 }
 
 /// Plays a script with no faults.
-pub(crate) fn play_whole(alloc: Global, script: &[u8], piece: u32) -> Result<(u8, Bytes), Memory>
+fn play_whole(alloc: Global, script: &[u8], piece: u32) -> Result<(u8, Bytes), Memory>
     requires { 0 < piece }
 {
     play(
@@ -47,6 +57,49 @@ pub(crate) fn play_whole(alloc: Global, script: &[u8], piece: u32) -> Result<(u8
         NumberList::new(alloc),
         NumberList::new(alloc),
     )
+}
+
+/// Plays a script in pieces of three sizes, each time with this status and this trace.
+fn expect(
+    rt: &impl Abort,
+    alloc: Global,
+    script: &str,
+    status: u8,
+    trace: &str,
+) -> Result<(), Fail> {
+    for piece in [1, 7, 65_536] {
+        assert!(rt; piece > 0);
+        let (given, written) = play_whole(alloc, script.as_bytes(), piece)?;
+        assert_eq!(rt; given, status, "{script}");
+        assert_eq!(rt; written.as_slice(), trace.as_bytes(), "{script}");
+    }
+    Ok(())
+}
+
+/// Plays a long script, which ends with status 0 and this trace.
+fn expect_long(rt: &impl Abort, alloc: Global, script: &str, trace: &str) -> Result<(), Fail> {
+    let (status, written) = play_whole(alloc, script.as_bytes(), 65_536)?;
+    assert_eq!(rt; status, 0);
+    assert_eq!(rt; written.as_slice(), trace.as_bytes());
+    Ok(())
+}
+
+/// A script of lines behind tables: each line with its answer, and the numbers of SDUs accepted, handed up and confirmed.
+type Rows<'a> = (&'a str, &'a [(&'a str, &'a str)], &'a str);
+
+/// Plays the lines of each script, and compares what they are answered.
+fn expect_answers(rt: &impl Abort, alloc: Global, scripts: &[Rows<'_>]) -> Result<(), Fail> {
+    for (tables, rows, totals) in scripts {
+        let mut script = String::from_str(alloc, tables)?;
+        let mut trace = String::new(alloc);
+        for (line, answer) in *rows {
+            write!(script, "{line}\n")?;
+            write!(trace, "{answer}\n")?;
+        }
+        write!(trace, "total 1 1 ul {totals}\ntotal 1 1 dl 0 0 0\ndone\n")?;
+        expect(rt, alloc, script.as_str(), 0, trace.as_str())?;
+    }
+    Ok(())
 }
 
 #[test]
@@ -67,16 +120,6 @@ fn scripts_and_their_traces(rt: HostRuntime) -> Result<(), Fail> {
         (TABLES, 0, empty_totals),
         (WIDE_TABLES, 0, empty_totals),
         (
-            "relayscript 1\nremote 1\nbearer 1 1 18 12\n",
-            1,
-            "bad 3 later\n",
-        ),
-        (
-            "relayscript 1\nremote 1\nbearer 1 1 12 13\n",
-            1,
-            "bad 3 later\n",
-        ),
-        (
             "relayscript 1\nremote 1\nbearer 1 1 12 12\ngo",
             0,
             empty_totals,
@@ -86,55 +129,29 @@ fn scripts_and_their_traces(rt: HostRuntime) -> Result<(), Fail> {
         ("", 1, "bad 1 end\n"),
         ("relayscript 1\n", 1, "bad 2 end\n"),
         ("relayscript 1", 1, "bad 2 end\n"),
-        ("relayscript 1\ngo\nfly\n", 1, "bad 3 later\n"),
-        ("relayscript 1\r\ngo\r\n", 1, "bad 1 later\n"),
-        ("relayscript 1\nremote 1\0\n", 1, "bad 2 later\n"),
-        ("relayscript 2\n", 1, "bad 1 later\n"),
-        ("relayscript 1\nremote 01\n", 1, "bad 2 later\n"),
-        ("relayscript 1\nremote 65536\n", 1, "bad 2 later\n"),
+        ("#\n\nrelayscript 1\nremote 1", 1, "bad 5 end\n"),
+        ("relayscript 1\ngo\nfly\n", 1, "bad 3 word\n"),
+        ("relayscript 2\n", 1, "bad 1 version\n"),
+        ("relayscript 1\nremote 0\n", 1, "bad 2 range\n"),
+        ("relayscript 1\r\ngo\r\n", 1, "bad 1 text\n"),
+        ("relayscript 1\nremote 1\0\n", 1, "bad 2 text\n"),
         (
-            "relayscript 1\nremote 65535\nbearer 65535 33 12 12\n",
-            1,
-            "bad 3 later\n",
-        ),
-        (
-            "relayscript 1\nremote 65535\nbearer 65535 32 12 12\ngo\n",
+            "relayscript 1\nremote 65535\nbearer 65535 32 12 12\nset maxretx 255\nset pollpdu 65536\nset pollbyte 16777216\ngo\n",
             0,
             "total 65535 32 ul 0 0 0\ntotal 65535 32 dl 0 0 0\ndone\n",
         ),
-        ("relayscript 1\nremote 1\nremote 2\n", 1, "bad 3 later\n"),
-        ("relayscript 1\ngo\nsubmit 1 1 ul 6\n", 1, "bad 3 later\n"),
-        ("relayscript 1\ngo\nsubmit 1 1 dl 61\n", 1, "bad 3 later\n"),
-        ("relayscript 1\ngo\ndeliver  1\n", 1, "bad 3 later\n"),
-        ("relayscript 1\ngo\ndeliver 0\n", 1, "bad 3 later\n"),
         (
-            "relayscript 1\ngo\ndeliver 18446744073709551615\n",
+            "relayscript 1\ngo\ndeliver 18446744073709551615\ngrant d1.1 ul 65535\nsubmit 1 1 ul 6A\nexpire d1.1 low poll\nend",
             0,
-            "noair\ndone\n",
+            "noair\nnoport\nnobearer\nnoport\ndone\n",
         ),
         (
-            "relayscript 1\ngo\ndeliver 18446744073709551616\n",
+            "relayscript 1\ngo\nlose 1\nfly\nlose 1\n",
             1,
-            "bad 3 later\n",
-        ),
-        ("relayscript 1\ngo\ngrant d1.1 ul 0\n", 1, "bad 3 later\n"),
-        (
-            "relayscript 1\ngo\ngrant d1.1 ul 65535\n",
-            0,
-            "noport\ndone\n",
-        ),
-        (
-            "relayscript 1\ngo\nsubmit 1 1 ul 6A\nend",
-            0,
-            "nobearer\ndone\n",
+            "noair\nbad 4 word\n",
         ),
     ] {
-        for piece in [1, 7, 65_536] {
-            assert!(rt; piece > 0);
-            let (given, written) = play_whole(alloc, script.as_bytes(), piece)?;
-            assert_eq!(rt; given, status, "{script}");
-            assert_eq!(rt; written.as_slice(), trace.as_bytes(), "{script}");
-        }
+        expect(&rt, alloc, script, status, trace)?;
     }
     Ok(())
 }
@@ -152,12 +169,15 @@ fn with_long_line(alloc: Global, first: u8, count: u32) -> Result<Bytes, Memory>
 #[test]
 fn long_lines(rt: HostRuntime) -> Result<(), Fail> {
     let alloc = rt.alloc();
-    for (count, status, trace) in [
-        (65_536, 0, "done\n"),
-        (65_537, 1, "bad 3 later\n"),
-        (70_000, 1, "bad 3 later\n"),
+    for (first, count, status, trace) in [
+        (b'#', 65_536, 0, "done\n"),
+        (b'#', 65_537, 1, "bad 3 line\n"),
+        (b'#', 70_000, 1, "bad 3 line\n"),
+        (b'a', 65_536, 1, "bad 3 word\n"),
+        (b'a', 65_537, 1, "bad 3 line\n"),
+        (b'\t', 65_537, 1, "bad 3 line\n"),
     ] {
-        let script = with_long_line(alloc, b'#', count)?;
+        let script = with_long_line(alloc, first, count)?;
         for piece in [7, 65_536] {
             assert!(rt; piece > 0);
             let (given, written) = play_whole(alloc, script.as_slice(), piece)?;
@@ -228,147 +248,6 @@ fn faults_of_each_call(rt: HostRuntime) -> Result<(), Fail> {
                 assert_eq!(rt; status, 0, "write {call}");
             }
         }
-    }
-    Ok(())
-}
-
-/// What the five deliveries of an order print, by the rule that all SDUs without a gap go up.
-fn push_deliveries(alloc: Global, out: &mut String, order: [u32; 5]) -> Result<(), AllocError> {
-    let mut heard = Vec::new(alloc);
-    let mut next = 1;
-    for ticket in order {
-        heard.push(ticket)?;
-        let from = next;
-        for _ in 0..5 {
-            if next < 6 && heard.contains(&next) {
-                next += 1;
-            }
-        }
-        for up in from..next {
-            write!(out, "  up 1 1 ul 6{up}\n")?;
-        }
-        if from == next {
-            out.push_str("ok waiting\n")?;
-        } else {
-            let count = next.saturating_sub(from);
-            write!(out, "ok up {count}\n")?;
-        }
-    }
-    Ok(())
-}
-
-fn are_distinct(order: [u32; 5]) -> bool {
-    let [a, b, c, d, e] = order;
-    a != b && a != c && a != d && a != e && b != c && b != d && b != e && c != d && c != e && d != e
-}
-
-#[test]
-fn every_order_of_five_deliveries(rt: HostRuntime) -> Result<(), Fail> {
-    let alloc = rt.alloc();
-    let sent =
-        "ok 0\nok 1\nok 2\nok 3\nok 4\nair 1 data 0 8000800061\nair 2 data 1 8001800162\nair 3 data 2 8002800263\nair 4 data 3 8003800364\nair 5 data 4 c004800465\n";
-    for code in 0..3125 {
-        let order = [
-            code % 5 + 1,
-            code / 5 % 5 + 1,
-            code / 25 % 5 + 1,
-            code / 125 % 5 + 1,
-            code / 625 % 5 + 1,
-        ];
-        if !are_distinct(order) {
-            continue;
-        }
-        let mut script = String::from_str(alloc, TABLES)?;
-        let mut trace = String::from_str(alloc, sent)?;
-        for digit in 1..6 {
-            write!(script, "submit 1 1 ul 6{digit}\n")?;
-        }
-        for _ in 0..5 {
-            script.push_str("grant d1.1 ul 100\n")?;
-        }
-        for ticket in order {
-            write!(script, "deliver {ticket}\n")?;
-        }
-        push_deliveries(alloc, &mut trace, order)?;
-        trace.push_str("total 1 1 ul 5 5 0\ntotal 1 1 dl 0 0 0\ndone\n")?;
-        let (status, written) = play_whole(alloc, script.as_bytes(), 65_536)?;
-        assert_eq!(rt; status, 0);
-        assert_eq!(rt; written.as_slice(), trace.as_bytes(), "{order:?}");
-    }
-    Ok(())
-}
-
-/// A full window of SDUs of one byte, each in one PDU, and what is refused behind it. RLC sequence numbers have 12 bits, or
-/// 18 where they are wide.
-fn play_full_window(rt: &impl Abort, alloc: Global, wide: bool) -> Result<(), Fail> {
-    let mut script = String::from_str(alloc, if wide { WIDE_TABLES } else { TABLES })?;
-    let mut trace = String::new(alloc);
-    for count in 0..2048 {
-        script.push_str("submit 1 1 ul 61\n")?;
-        write!(trace, "ok {count}\n")?;
-    }
-    script.push_str("submit 1 1 ul 61\n")?;
-    trace.push_str("full 0\n")?;
-    for bytes in [9000, 9001] {
-        script.push_str("submit 1 1 ul ")?;
-        for _ in 0..bytes {
-            script.push_str("61")?;
-        }
-        script.push_str("\n")?;
-    }
-    trace.push_str("full 0\nlong\n")?;
-    // Each 32nd PDU polls, and so does the last.
-    for number in 0..2048 {
-        script.push_str("grant d1.1 ul 100\n")?;
-        let ticket = number + 1;
-        let first = if ticket % 32 == 0 { 0xc0 } else { 0x80 };
-        let high = number / 256;
-        let low = number % 256;
-        let pdcp = 0x80 + high;
-        write!(trace, "air {ticket} data {number} ")?;
-        if wide {
-            write!(trace, "{first:02x}{high:02x}{low:02x}")?;
-        } else {
-            let narrow = first + high;
-            write!(trace, "{narrow:02x}{low:02x}")?;
-        }
-        write!(trace, "{pdcp:02x}{low:02x}61\n")?;
-    }
-    script.push_str("grant d1.1 ul 100\n")?;
-    trace.push_str("idle\n")?;
-    trace.push_str("total 1 1 ul 2048 0 0\ntotal 1 1 dl 0 0 0\ndone\n")?;
-    let (status, written) = play_whole(alloc, script.as_bytes(), 65_536)?;
-    assert_eq!(rt; status, 0);
-    assert_eq!(rt; written.as_slice(), trace.as_bytes());
-    Ok(())
-}
-
-#[test]
-fn full_windows_and_long_sdus(rt: HostRuntime) -> Result<(), Fail> {
-    play_full_window(&rt, rt.alloc(), false)?;
-    play_full_window(&rt, rt.alloc(), true)
-}
-
-#[test]
-fn words_of_the_program(rt: HostRuntime) -> Result<(), Fail> {
-    let alloc = rt.alloc();
-    let usage = "usage: relayplay play | work | show FORM HEX | load N\n";
-    let rows: [(&[&str], u8, &str); 4] = [
-        (&["play"], 0, FIRST_TRACE),
-        (&[], 2, usage),
-        (&["work"], 2, usage),
-        (&["play", "play"], 2, usage),
-    ];
-    for (given, status, text) in rows {
-        let mut words = Vec::new(alloc);
-        for word in given {
-            words.push(String::from_str(alloc, word)?)?;
-        }
-        let script = copy_bytes(alloc, FIRST_DELIVERY.as_bytes())?;
-        let mut source = MemSource::new(script, 64, NumberList::new(alloc));
-        let mut sink = MemSink::new(alloc, 64, NumberList::new(alloc));
-        assert_eq!(rt; top(alloc, &words, &mut source, &mut sink), status);
-        assert_eq!(rt; sink.written(), text.as_bytes());
     }
     Ok(())
 }

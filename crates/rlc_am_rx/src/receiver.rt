@@ -126,7 +126,8 @@ impl AmRx {
         self.received.conflicts(number, pdu)
     }
 
-    fn size(&self) -> SnSize
+    /// How many bits its sequence numbers have.
+    pub fn size(&self) -> SnSize
         ensures { result ≡ self.now.size }
     {
         self.size

@@ -87,6 +87,13 @@ impl AmTx {
         })
     }
 
+    /// How many bits its sequence numbers have.
+    pub fn size(&self) -> SnSize
+        ensures { result ≡ self.now.size }
+    {
+        self.size
+    }
+
     /// TX_Next: the number of the next SDU given (TS 38.322 clause 7.1).
     pub fn next(&self) -> u64
         ensures { result ≡ tx_next self.now }

@@ -14,7 +14,7 @@ use Rattle.rlc_model.specs.declared.receiver.Heard.TheVariants.{Stored, Complete
 use Rattle.rlc_model.specs.Air.{IsFresh}
 use Rattle.rlc_law.specs.Hop.{Hop, StatusMade, Completion, Event, Happens, gives, sends, reports, delivers, acknowledges, expires_poll, expires_reassembly, expires_prohibit, Reaches, start, completed_after, given_at}
 use Rattle.std.specs.List.{Contains}
-use Rattle.rlc_law.specs.Laws.{CompletesHeard, HeardAsGiven}
+use Rattle.rlc_law.specs.Laws.{CompletesHeard, HeardAsGiven, HoldsHeard, KnowsHeardEnd}
 use Rattle.rlc_law.proofs.Base.{near_one, part_not_done, below_rx_next, done_below}
 use Rattle.rlc_law.proofs.Invariant.{at, Invariant}
 use Rattle.rlc_law.proofs.Bytes.{first_cases, byte_below, piece_byte, held_some}
@@ -318,3 +318,16 @@ heard_as_given h run n sdu heard =
           let d_is = inv.pdus b.0 (fits.sent b.0 b.1) in
           (piece_byte (at h.given (b.0).number) (b.0).view p (get_or sdu p 0) d_is.piece b.3).1 ∙ ap (λ (n : ℕ). get_or (at h.given n) p 0) b.2),
     )
+
+pub holds_heard : HoldsHeard
+holds_heard h run n p open_n = (
+  λ none b has. (reaches_delivered h run).bytes n p b open_n has none,
+  λ unheard. none_of (held_at (got h.rx n) p) (λ b is. unheard b ((reaches_delivered h run).held n p b is)),
+)
+  where
+    none_of : (o : Option ℕ) → ((b : ℕ) → o ≡ Some b → ⊥) → o ≡ None
+    none_of None never = refl
+    none_of (Some b) never = absurd (never b refl)
+
+pub knows_heard_end : KnowsHeardEnd
+knows_heard_end h run n l open_n = (λ is. (reaches_delivered h run).len n l is, λ has. (reaches_delivered h run).ends n l open_n has)

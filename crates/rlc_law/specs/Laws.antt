@@ -1,5 +1,5 @@
 -- The laws of a hop, over every run.
-use Rattle.std.specs.Prelude.{◌≡◌, ◌≢◌, ◌↔◌, ℕ, ◌+◌, ◌%◌, ◌<◌, ◌≤◌, List, ◌∷◌, ◌++◌, length, Contains, AllPairs, None}
+use Rattle.std.specs.Prelude.{◌≡◌, ◌≢◌, ◌↔◌, ℕ, ◌+◌, ◌%◌, ◌<◌, ◌≤◌, List, ◌∷◌, ◌++◌, length, Contains, AllPairs, Some, None}
 use Rattle.link_base.specs.SequenceNumbers.{modulus, window, Near}
 use Rattle.rlc_pdu.specs.Amd.{Fits}
 use Rattle.rlc_status.specs.declared.status.Status.{Status}
@@ -7,10 +7,10 @@ use Rattle.rlc_status.specs.Format.{StatusFits}
 use Rattle.rlc_status.specs.Says.{SaysReceived}
 use Rattle.rlc_model.specs.declared.receiver.Heard.TheVariants.{Outside, Conflict}
 use Rattle.rlc_model.specs.Pdu.{IsPiece}
-use Rattle.rlc_model.specs.Heard.{Data, HeardAs}
+use Rattle.rlc_model.specs.Heard.{Data, HasByte, HasEnd, HeardAs}
 use Rattle.rlc_model.specs.Tx.{kept_at, tx_next, tx_next_ack}
 use Rattle.rlc_model.specs.Retransmission.{IsBeyond}
-use Rattle.rlc_model.specs.Rx.{Rx, Done, got, rx_next, Hears}
+use Rattle.rlc_model.specs.Rx.{Rx, Done, got, held_at, len_of, rx_next, Hears}
 use Rattle.rlc_model.specs.Made.{Reports, IsTrueOf}
 use Rattle.rlc_model.specs.Air.{IsFresh, IsFreshStatus}
 use Rattle.rlc_law.specs.Hop.{Hop, StatusMade, Completion, Event, Happens, Reaches, given_at}
@@ -70,6 +70,14 @@ CompletesHeard = (h : Hop) → Reaches h → (n : ℕ) → n < length h.given �
 
 abbrev pub HeardAsGiven : Type 0
 HeardAsGiven = (h : Hop) → Reaches h → (n : ℕ) (sdu : List ℕ) → HeardAs h.heard n sdu → (n < length h.given) × (sdu ≡ given_at h n)
+
+-- of a number that isn't complete a byte is held exactly where a PDU that was delivered has it
+abbrev pub HoldsHeard : Type 0
+HoldsHeard = (h : Hop) → Reaches h → (n p : ℕ) → got h.rx n ≢ Done → (held_at (got h.rx n) p ≡ None) ↔ ((b : ℕ) → HasByte h.heard n p b → ⊥)
+
+-- and its length is known exactly where a PDU that was delivered ends there
+abbrev pub KnowsHeardEnd : Type 0
+KnowsHeardEnd = (h : Hop) → Reaches h → (n l : ℕ) → got h.rx n ≢ Done → (len_of (got h.rx n) ≡ Some l) ↔ HasEnd h.heard n l
 
 -- numbers are bounded by the data PDUs that were made
 abbrev pub NumbersBounded : Type 0

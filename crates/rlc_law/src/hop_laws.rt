@@ -1,5 +1,5 @@
 // The laws of a hop whose transmitter and receiver are the two ends of one air.
-ghost use Rattle.rlc_law.specs.Laws.{ReachesMore, SendsPieces, SendsInOrder, CompletesAsGiven, CompletesOnce, ConfirmsComplete, ReadsOwnNumber, ReadsOwnAck, NoneOutside, NoneBeyond, MakesTrue, StaysTrue, CompletesHeard, HeardAsGiven, NumbersBounded};
+ghost use Rattle.rlc_law.specs.Laws.{ReachesMore, SendsPieces, SendsInOrder, CompletesAsGiven, CompletesOnce, ConfirmsComplete, ReadsOwnNumber, ReadsOwnAck, NoneOutside, NoneBeyond, MakesTrue, StaysTrue, CompletesHeard, HeardAsGiven, HoldsHeard, KnowsHeardEnd, NumbersBounded};
 ghost use Rattle.rlc_law.specs.Hops.{MovesKeep};
 
 /// A law: an event takes a hop that can be reached to one that can be reached.
@@ -43,10 +43,13 @@ pub fn status_is_true()
 {}
 
 /// A law: a number is complete exactly where the data PDUs delivered so far, as a set of bytes by number and place, hold
-/// each byte of an SDU up to its end; and that SDU is the one given.
+/// each byte of an SDU up to its end; and that SDU is the one given. Of a number that isn't complete those bytes and that end
+/// are held that some of them have.
 pub fn what_is_complete_was_heard()
     ensures complete { CompletesHeard }
     ensures as_given { HeardAsGiven }
+    ensures holds { HoldsHeard }
+    ensures ends { KnowsHeardEnd }
 {}
 
 /// A law: TX_Next_Ack is at most the number of data PDUs made, TX_Next lies at most a window above that, and RX_Next is at

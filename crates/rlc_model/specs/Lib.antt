@@ -7,4 +7,5 @@ pub mod Tx
 pub mod Retransmission
 pub mod Air
 pub mod Calls
+pub mod Hop
 pub mod Worked

@@ -4,10 +4,12 @@
 //! are what the calls of the entities answer.
 #![tactic(auto)]
 
+mod hop;
 mod laws;
 mod receiver;
 mod transmitter;
 
+pub use hop::{AirFault, HopGrant, HopHeard, Pdu};
 pub use laws::{a_lost_sdu_is_sent_again, segments_are_sent_and_heard};
 pub use receiver::{Heard, Made};
 pub use transmitter::{StatusHeard, TagList, TxGrant};

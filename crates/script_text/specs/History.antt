@@ -1,14 +1,13 @@
 -- What a run has been so far: its entries, the newest first.
-use Rattle.std.specs.Prelude.{◌≡◌, ◌⊎◌, ℕ, ◌+◌, ◌≤◌, true, false, List, [], ◌∷◌, ◌++◌, length, None, unwrap_or}
+use Rattle.std.specs.Prelude.{◌≡◌, ◌⊎◌, ℕ, ◌+◌, ◌≤◌, true, false, List, [], ◌∷◌, ◌++◌, length, Ok, Err}
 use Rattle.script_text.specs.declared.stage.ScriptStage.{ScriptStage}
-use Rattle.script_text.specs.declared.stage.ScriptStage.TheVariants.{Start}
 use Rattle.script_text.specs.declared.line.Line.{Line}
 use Rattle.script_text.specs.declared.event.Event.{Event}
 use Rattle.script_text.specs.declared.reply.Reply.{Reply}
 use Rattle.script_text.specs.Words.{words_of}
 use Rattle.script_text.specs.Lines.{is_skipped, Spells}
 use Rattle.script_text.specs.Splits.{Splits}
-use Rattle.script_text.specs.Stages.{stage_after}
+use Rattle.script_text.specs.Stages.{first_stage, after}
 use Rattle.script_text.specs.Texts.{entry_text}
 
 -- a line that was carried out, what it brought about, and the reply
@@ -24,8 +23,8 @@ trace (e ∷ h) = trace h ++ entry_text e.line e.events e.reply
 
 -- how far the script has come
 abbrev pub stage_of : List Entry → ScriptStage
-stage_of [] = Start
-stage_of (e ∷ h) = unwrap_or (stage_after (stage_of h) e.line) Start
+stage_of [] = first_stage
+stage_of (e ∷ h) = elim (after (stage_of h) e.line) [ Ok stage ↦ stage | Err fault ↦ stage_of h ]
 
 -- the input begins with these lines, the newest first, each of which ends in time, and then the rest
 abbrev pub Reads : List ℕ → List (List ℕ) → List ℕ → Type 0
@@ -38,7 +37,3 @@ Spelt [] [] = Unit {0}
 Spelt [] (e ∷ h) = ⊥
 Spelt (text ∷ texts) [] = (is_skipped text ≡ true) × Spelt texts []
 Spelt (text ∷ texts) (e ∷ h) = ((is_skipped text ≡ true) × Spelt texts (e ∷ h)) ⊎ ((is_skipped text ≡ false) × Spells (words_of text) e.line × Spelt texts h)
-
--- no line that the text spells may stand here
-abbrev pub MayNotStand : List ℕ → ScriptStage → Type 0
-MayNotStand text stage = (line : Line) → Spells (words_of text) line → stage_after stage line ≡ None

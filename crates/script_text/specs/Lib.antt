@@ -1,6 +1,10 @@
 pub mod Words
+pub mod Fields
 pub mod Lines
+pub mod Forms
 pub mod Splits
 pub mod Stages
+pub mod Grammar
 pub mod Texts
 pub mod History
+pub mod Told

@@ -1,57 +1,74 @@
--- Which line may stand where.
-use Rattle.std.specs.Prelude.{ℕ, Bool, true, false, ◌&&◌, ◌==◌, None, Some, if◌then◌else◌}
-use Rattle.std.specs.declared.option.Option.{Option}
-use Rattle.link_base.specs.declared.names.PortName.{PortName}
-use Rattle.link_base.specs.declared.names.PortName.TheVariants.{Direct, Pc5, Uu}
-use Rattle.script_text.specs.declared.stage.BearerTable.{BearerTable}
-use Rattle.script_text.specs.declared.stage.BearerTable.TheVariants.{Empty, Remote as OneRemote, Bearer as OneBearer}
+-- How far a script has come, and what each line makes of that.
+use Rattle.std.specs.Prelude.{◌≡◌, ℕ, Bool, true, false, Option, None, Some, Result, Ok, Err, if◌then◌else◌}
+use Rattle.link_base.specs.declared.names.SnSize.{SnSize}
+use Rattle.link_base.specs.declared.names.SnSize.TheVariants.{S12, S18}
+use Rattle.bearer_map.specs.declared.rows.TableFault.{TableFault}
+use Rattle.bearer_map.specs.declared.rows.TableFault.TheVariants.{NoMap, Memory}
+use Rattle.bearer_map.specs.Contents.{Contents, nothing}
+use Rattle.bearer_map.specs.Lines.{set_line, remote_line, bearer_line, uu_line, pc5_line, map_line, start_line, path_line, is_mapped}
+use Rattle.script_text.specs.declared.stage.Part.{Part}
+use Rattle.script_text.specs.declared.stage.Part.TheVariants.{Start as AtStart, Tables, Running, Ended}
 use Rattle.script_text.specs.declared.stage.ScriptStage.{ScriptStage}
-use Rattle.script_text.specs.declared.stage.ScriptStage.TheVariants.{Start, Tables, Running, Ended}
 use Rattle.script_text.specs.declared.line.Line.{Line}
-use Rattle.script_text.specs.declared.line.Line.TheVariants.{Version, Remote, Bearer, Go, Submit, Grant, Deliver, Repeat, Lose, End}
+use Rattle.script_text.specs.declared.line.Line.TheVariants.{Version, Set, Remote, Bearer, Uu, Pc5, Map, Start, Path, Go, End}
 
--- the stage behind a line, where the line may stand
-abbrev pub stage_after : ScriptStage → Line → Option ScriptStage
-stage_after Start (Version number) = Some (Tables Empty)
-stage_after (Tables Empty) (Remote r) = Some (Tables (OneRemote r))
-stage_after (Tables (OneRemote s)) (Bearer r d pdcp direct) = if s.0 == r.0 then Some (Tables (OneBearer r d direct)) else None
-stage_after (Tables table) Go = Some (Running table)
-stage_after (Running table) (Submit key sdu) = Some (Running table)
-stage_after (Running table) (Grant port way n) = Some (Running table)
-stage_after (Running table) (Deliver t) = Some (Running table)
-stage_after (Running table) (Repeat t) = Some (Running table)
-stage_after (Running table) (Lose t) = Some (Running table)
-stage_after (Running table) End = Some (Ended table)
-stage_after stage line = None
+-- before the first line
+abbrev pub first_stage : ScriptStage
+first_stage = record { part = AtStart; tables = Some nothing }
 
--- the tables, once they are closed
-abbrev pub table_of : ScriptStage → BearerTable
-table_of (Running table) = table
-table_of (Ended table) = table
-table_of stage = Empty
+abbrev pub is_past_go : Part → Bool
+is_past_go AtStart = false
+is_past_go Tables = false
+is_past_go Running = true
+is_past_go Ended = true
 
--- behind go, and before end
-abbrev pub is_running : ScriptStage → Bool
-is_running (Running table) = true
-is_running stage = false
+-- once the tables were taken
+abbrev pub without_tables : ScriptStage → ScriptStage
+without_tables stage = record { part = stage.part; tables = None }
 
--- behind end
-abbrev pub is_ended : ScriptStage → Bool
-is_ended (Ended table) = true
-is_ended stage = false
+abbrev pub bits : SnSize → ℕ
+bits S12 = 12
+bits S18 = 18
 
--- whether the tables have a bearer
-abbrev pub is_served : BearerTable → Bool
-is_served (OneBearer r d size) = true
-is_served table = false
+-- what a line makes of the tables: the first of its refusals that holds, or the tables behind it
+abbrev pub table_line : Contents → Line → Result Contents TableFault
+table_line t (Set name value) = set_line t name value
+table_line t (Remote r) = remote_line t r.0
+table_line t (Bearer r d pdcp direct) = bearer_line t r.0 d.0 (bits pdcp) (bits direct)
+table_line t (Uu c size) = uu_line t c.0 (bits size)
+table_line t (Pc5 r c size) = pc5_line t r.0 c.0 (bits size)
+table_line t (Map r d pc5 uu) = map_line t r.0 d.0 pc5.0 uu.0
+table_line t (Start key first) = start_line t key.remote.0 key.drb.0 key.way first
+table_line t (Path r goal) = path_line t r.0 goal
+table_line t Go = if is_mapped t.remotes t.bearers t.maps then Ok t else Err NoMap
+table_line t line = Ok t
 
--- whether the tables have this bearer
-abbrev pub has_bearer : BearerTable → ℕ → ℕ → Bool
-has_bearer (OneBearer r d size) remote drb = (r.0 == remote) && (d.0 == drb)
-has_bearer table remote drb = false
+abbrev pub kept : Result Contents TableFault → Result (Option Contents) TableFault
+kept (Ok t) = Ok (Some t)
+kept (Err fault) = Err fault
 
--- whether the tables have this port
-abbrev pub has_port : BearerTable → PortName → Bool
-has_port table (Direct remote drb) = has_bearer table remote.0 drb.0
-has_port table (Pc5 remote chan) = false
-has_port table (Uu chan) = false
+-- the same, where the tables may have been taken
+abbrev pub tables_after : Option Contents → Line → Result (Option Contents) TableFault
+tables_after None line = Ok None
+tables_after (Some t) line = kept (table_line t line)
+
+-- the part of a script behind a line
+abbrev pub part_after : Part → Line → Part
+part_after part (Version number) = Tables
+part_after part Go = Running
+part_after part End = Ended
+part_after part line = part
+
+abbrev pub entered : Part → Result (Option Contents) TableFault → Result ScriptStage TableFault
+entered part (Ok tables) = Ok (record { part = part; tables = tables })
+entered part (Err fault) = Err fault
+
+-- the stage behind a line of the stage's part, or why the tables refuse it
+abbrev pub after : ScriptStage → Line → Result ScriptStage TableFault
+after stage line = entered (part_after stage.part line) (tables_after stage.tables line)
+
+-- what reading a line answers and leaves where this is what the line gives. Memory may be wanting for what it gives.
+abbrev pub Enters : Result Unit TableFault → ScriptStage → ScriptStage → Result ScriptStage TableFault → Type 0
+Enters (Ok done) old new line = line ≡ Ok new
+Enters (Err Memory) old new line = new ≡ old
+Enters (Err fault) old new line = (line ≡ Err fault) × (new ≡ old)

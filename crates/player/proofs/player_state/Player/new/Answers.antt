@@ -1,8 +1,7 @@
 use Rattle.std.proofs.Common.{sym, subst}
-use Rattle.script_text.specs.declared.stage.BearerTable.TheVariants.{Empty}
 use Rattle.chain_law.specs.Fits.{Fits}
 use Rattle.chain_law.proofs.FitsSteps.{fits_opened}
 use Rattle.player.proofs.player_state.Player.new.Goals as goal
 
 pub returns-clause-fits : goal.returns-clause-fits
-returns-clause-fits c = subst Fits (sym c.in_ok-new.ensures) (fits_opened Empty)
+returns-clause-fits c = subst Fits (sym c.in_ok-session.ensures) (fits_opened c.table.result)

@@ -1,0 +1,2 @@
+pub mod SrapFacts
+pub mod Explained
