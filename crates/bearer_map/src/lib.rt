@@ -19,6 +19,3 @@ pub use routing::{down_route, gnb_route, remote_route, up_route};
 pub use rows::{BearerRow, MapRow, Pc5Row, RemoteRow, TableFault, UuRow};
 pub use settings::{SetName, Settings};
 pub use tables::Tables;
-
-#[cfg(test)]
-mod tests;

@@ -14,6 +14,3 @@ pub use mem_source::MemSource;
 pub use sink::{Sink, WriteFault, write_all};
 pub use source::{Failed, ReadFault, Source, read_up_to};
 pub use standard::{StdSink, StdSource};
-
-#[cfg(test)]
-mod tests;

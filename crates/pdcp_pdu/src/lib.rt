@@ -13,6 +13,3 @@ pub use laws::{
     worked_report,
 };
 pub use pdu::{PdcpFault, PdcpView};
-
-#[cfg(test)]
-mod tests;

@@ -12,6 +12,3 @@ mod text;
 pub use form::{Form, form_of};
 pub use laws::{all_explained, one_explanation};
 pub use shown::push_shown;
-
-#[cfg(test)]
-mod tests;

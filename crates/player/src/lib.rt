@@ -25,6 +25,3 @@ pub use receiver::Receiver;
 pub use session::Session;
 pub use shown::show;
 pub use top_call::{RunFault, run, top};
-
-#[cfg(test)]
-mod tests;

@@ -11,6 +11,3 @@ mod report;
 
 pub use receiver::AmRx;
 pub use rlc_model::{Heard, Made};
-
-#[cfg(test)]
-mod tests;

@@ -7,12 +7,9 @@ ghost use Rattle.rlc_am_tx.specs.Elements.{IsWrong};
 ghost use Rattle.rlc_am_tx.specs.Beyond.{IsBeyondOf};
 
 use crate::buffer::TxBuffer;
-use crate::elements::{count_of, greatest, names};
+use crate::elements::{TO_THE_END, count_of, greatest, names};
 use link_base::SnSize;
 use rlc_status::Nack;
-
-// SOend for the end of an SDU (TS 38.322 clause 6.2.3.17).
-const TO_THE_END: u16 = 65_535;
 
 /// Whether a STATUS PDU, whose ACK_SN stands for `ack`, speaks of what was not sent.
 pub(crate) fn is_beyond(buffer: &TxBuffer, size: SnSize, ack: u64, nacks: &[Nack]) -> bool

@@ -13,8 +13,8 @@ use link_base::{Memory, SnSize};
 use rlc_status::Nack;
 use std::collections::BTreeSet;
 
-// SOend for the end of an SDU (TS 38.322 clause 6.2.3.17).
-const TO_THE_END: u16 = 65_535;
+// SOend for the end of an SDU (TS 38.322 clause 6.2.3.15).
+pub(crate) const TO_THE_END: u16 = 65_535;
 
 /// Bytes that a STATUS PDU names: of the SDU so many numbers behind TX_Next_Ack those from `from` up to but without
 /// `until`, or from `from` on.

@@ -13,6 +13,3 @@ mod slot;
 
 pub use am_tx::{AmTx, GiveFault};
 pub use rlc_model::{StatusHeard, TagList, TxGrant};
-
-#[cfg(test)]
-mod tests;

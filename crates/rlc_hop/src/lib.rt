@@ -10,6 +10,3 @@ pub use air::Air;
 pub use hop::{hop_grant, hop_hear};
 pub use passing::may_pass;
 pub use rlc_model::{AirFault, HopGrant, HopHeard, Pdu};
-
-#[cfg(test)]
-mod tests;

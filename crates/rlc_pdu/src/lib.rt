@@ -6,6 +6,3 @@ mod laws;
 
 pub use amd::{AmdFault, AmdView, Si, decode_amd, encode_amd};
 pub use laws::{one_reading, one_spelling, pdu_or_fault, reads_back, reserved_bits_are_free};
-
-#[cfg(test)]
-mod tests;

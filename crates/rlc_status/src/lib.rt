@@ -16,6 +16,3 @@ pub use laws::{
 };
 pub use length::status_len;
 pub use status::{Nack, NackList, Status};
-
-#[cfg(test)]
-mod tests;

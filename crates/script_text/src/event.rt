@@ -17,7 +17,7 @@ pub enum Event {
         /// The ticket.
         ticket: u64,
     },
-    /// `maxretx PORT WAY N`: an SDU was retransmitted as often as it may be.
+    /// `maxretx PORT WAY N`: an SDU's RETX_COUNT came to maxRetxThreshold (TS 38.322 clause 5.3.2); it goes on to be sent again.
     MaxRetx {
         /// The port whose transmitter sent it.
         port: PortName,

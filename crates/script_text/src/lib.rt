@@ -43,6 +43,3 @@ pub use text::push_hex;
 pub use trace::{
     Total, TotalList, push_answer, push_bad_line, push_too_long, push_totals_and_done,
 };
-
-#[cfg(test)]
-mod tests;

@@ -24,7 +24,7 @@ pub enum Reply {
     OkStored,
     /// `ok repeat`: the PDU brought the RLC receiver nothing new.
     OkRepeat,
-    /// `ok outside`: the PDU's number isn't in the receiving window.
+    /// `ok outside`: no number near RX_Next has the PDU's SN.
     OkOutside,
     /// `ok conflict`: the PDU contradicts what the RLC receiver holds.
     OkConflict,

@@ -1,0 +1,5 @@
+//! Tests of player, apart from it since a crate with tests is proved twice.
+#![tactic(auto)]
+
+#[cfg(test)]
+mod tests;
