@@ -4,29 +4,35 @@ mod pdcp_pdus;
 mod srap_pdus;
 mod status_pdus;
 
-use link_base::SnSize;
+use link_base::SnSize::{S12, S18};
 use std::alloc::Global;
 use std::process::Abort;
 use std::test::Fail;
 
-/// Octets that are read with sequence numbers of a size, and what reading them says.
-#[derive(Drop)]
-struct Row<'a> {
-    size: SnSize,
-    octets: Vec<u8>,
-    want: &'a str,
+/// What reading octets in a form says: the fields of the PDU and the octets that are written of it, or the fault.
+fn reading(rt: &impl Abort, alloc: Global, form: &str, octets: &[u8]) -> Result<String, Fail> {
+    match form {
+        "amd12" => amd_pdus::reading(alloc, S12, octets),
+        "amd18" => amd_pdus::reading(alloc, S18, octets),
+        "status12" => status_pdus::reading(rt, alloc, S12, octets),
+        "status18" => status_pdus::reading(rt, alloc, S18, octets),
+        "pdcp12" => pdcp_pdus::reading(alloc, S12, octets),
+        "pdcp18" => pdcp_pdus::reading(alloc, S18, octets),
+        "srap" => srap_pdus::reading(alloc, octets),
+        _ => panic!(rt; "no such form: {form}"),
+    }
 }
 
-/// The size of sequence numbers and the octets in hexadecimal digits, parted by a space; and behind a bar what is wanted.
-fn row_of<'a>(rt: &impl Abort, alloc: Global, text: &'a str) -> Result<Row<'a>, Fail> {
-    let Some((spelt, want)) = text.split_once('|') else {
-        panic!(rt; "a row without a bar");
-    };
-    let (size, digits) = match spelt.split_once(' ') {
-        Some(("12", digits)) => (SnSize::S12, digits),
-        Some(("18", digits)) => (SnSize::S18, digits),
-        _ => panic!(rt; "a row without a size"),
-    };
-    let octets = hex::decode(alloc, digits.as_bytes())?;
-    Ok(Row { size, octets, want })
+/// Reads the octets of each row. A row is a form, a space, octets in hexadecimal digits, a bar, and what reading them says.
+fn expect_rows(rt: &impl Abort, alloc: Global, rows: &str) -> Result<(), Fail> {
+    for row in rows.split('\n') {
+        let Some((spelt, want)) = row.split_once('|') else {
+            panic!(rt; "a row without a bar");
+        };
+        let (form, digits) = spelt.split_once(' ').unwrap_or((spelt, ""));
+        let octets = hex::decode(alloc, digits.as_bytes())?;
+        let said = reading(rt, alloc, form, &octets)?;
+        assert_eq!(rt; said.as_str(), want, "{spelt}");
+    }
+    Ok(())
 }

@@ -1,6 +1,6 @@
 // From octets to fields.
 ghost use Rattle.std.specs.Prelude.{◌≡◌, ◌∷◌, ◌<◌, ◌≤◌, List, ℕ, IfOk, IfErr, IsOkAnd};
-ghost use Rattle.pdcp_pdu.specs.Pdcp.{Pdcp, Sdu, pdcp_of, IsPdcp, IsBody, IsBodyFault, IsFault};
+ghost use Rattle.pdcp_pdu.specs.Pdcp.{Pdcp, Sdu, pdcp_of, IsPdcp, Fits, IsBody, IsBodyFault, IsFault};
 
 use crate::{PdcpFault, PdcpView};
 use link_base::SnSize;
@@ -14,6 +14,8 @@ pub fn decode_pdcp(size: SnSize, bytes: &[u8]) -> Result<PdcpView<'_>, PdcpFault
     // What is read is spelt so, and what is spelt so is read.
     ensures read { IfOk result (λ v. IsPdcp size (pdcp_of v) bytes.now) }
     ensures spelt { (v : Pdcp) → IsPdcp size v bytes.now → IsOkAnd result (λ w. pdcp_of w ≡ v) }
+    // What is read can be encoded.
+    ensures fits { IfOk result (λ v. Fits size (pdcp_of v)) }
     // A fault that comes is the first that holds, and the first that holds comes.
     ensures fault { IfErr result (IsFault size bytes.now) }
     ensures refused { (fault : PdcpFault) → IsFault size bytes.now fault → result ≡ Err fault }
@@ -50,6 +52,7 @@ fn sdu(sn: u32, body: &[u8]) -> Result<PdcpView<'_>, PdcpFault>
 fn report(first: u8, rest: &[u8]) -> Result<PdcpView<'_>, PdcpFault>
     requires { first < 128 }
     ensures read { (size : SnSize) → IfOk result (λ v. IsPdcp size (pdcp_of v) (first ∷ rest.now)) }
+    ensures fits { (size : SnSize) → IfOk result (λ v. Fits size (pdcp_of v)) }
     ensures spelt { (size : SnSize) (v : Pdcp) → IsPdcp size v (first ∷ rest.now) → IsOkAnd result (λ w. pdcp_of w ≡ v) }
     ensures fault { (size : SnSize) → IfErr result (IsFault size (first ∷ rest.now)) }
     ensures refused { (size : SnSize) (fault : PdcpFault) → IsFault size (first ∷ rest.now) fault → result ≡ Err fault }

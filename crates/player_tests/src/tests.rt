@@ -1,6 +1,4 @@
 // Whole scripts and the traces that they give.
-ghost use Rattle.std.specs.Prelude.{◌<◌};
-
 mod acknowledged;
 mod endings;
 mod faults;
@@ -34,31 +32,34 @@ const FIRST_TRACE: &str =
 
 /// Plays a script whose bytes come and whose trace goes in pieces, with calls that fail. The status, and what was written.
 fn play(
+    rt: &impl Abort,
     alloc: Global,
-    script: &[u8],
+    script: &str,
     piece: u32,
     failed_reads: NumberList,
     failed_writes: NumberList,
-) -> Result<(u8, Bytes), Memory>
-    requires { 0 < piece }
-{
-    let mut source = MemSource::new(copy_bytes(alloc, script)?, piece, failed_reads);
+) -> Result<(u8, Bytes), Memory> {
+    assert!(rt; piece > 0);
+    let mut source = MemSource::new(copy_bytes(alloc, script.as_bytes())?, piece, failed_reads);
     let mut sink = MemSink::new(alloc, piece, failed_writes);
     let status = run(alloc, &mut source, &mut sink);
     Ok((status, copy_bytes(alloc, sink.written())?))
 }
 
-/// Plays a script with no faults.
-fn play_whole(alloc: Global, script: &[u8], piece: u32) -> Result<(u8, Bytes), Memory>
-    requires { 0 < piece }
-{
-    play(
-        alloc,
-        script,
-        piece,
-        NumberList::new(alloc),
-        NumberList::new(alloc),
-    )
+/// Plays a script with no faults, in pieces of a size. It ends with this status and this trace.
+fn expect_in_pieces(
+    rt: &impl Abort,
+    alloc: Global,
+    script: &str,
+    piece: u32,
+    status: u8,
+    trace: &str,
+) -> Result<(), Fail> {
+    let (none, no_more) = (NumberList::new(alloc), NumberList::new(alloc));
+    let (given, written) = play(rt, alloc, script, piece, none, no_more)?;
+    assert_eq!(rt; given, status);
+    assert_eq!(rt; written.as_slice(), trace.as_bytes());
+    Ok(())
 }
 
 /// Plays a script in pieces of three sizes, each time with this status and this trace.
@@ -70,10 +71,7 @@ fn expect(
     trace: &str,
 ) -> Result<(), Fail> {
     for piece in [1, 7, 65_536] {
-        assert!(rt; piece > 0);
-        let (given, written) = play_whole(alloc, script.as_bytes(), piece)?;
-        assert_eq!(rt; given, status, "{script}");
-        assert_eq!(rt; written.as_slice(), trace.as_bytes(), "{script}");
+        expect_in_pieces(rt, alloc, script, piece, status, trace)?;
     }
     Ok(())
 }
@@ -111,10 +109,8 @@ impl Session {
 
     /// Plays a long script, which ends with status 0.
     fn expect(&self, rt: &impl Abort) -> Result<(), Fail> {
-        let (status, written) = play_whole(self.alloc, self.script.as_bytes(), 65_536)?;
-        assert_eq!(rt; status, 0);
-        assert_eq!(rt; written.as_slice(), self.trace.as_bytes());
-        Ok(())
+        let (script, trace) = (self.script.as_str(), self.trace.as_str());
+        expect_in_pieces(rt, self.alloc, script, 65_536, 0, trace)
     }
 }
 

@@ -1,6 +1,6 @@
 // The PDU's fields, and its octets.
 ghost use Rattle.std.specs.Prelude.{◌≡◌, ◌<◌, ◌≤◌, length, IfOk, IfErr, IsOkAnd};
-ghost use Rattle.srap_header.specs.Srap.{Srap, srap_of, srap, IsSrap, bytes_of, IsFault};
+ghost use Rattle.srap_header.specs.Srap.{Srap, srap_of, srap, IsSrap, Fits, bytes_of, IsFault};
 
 use link_base::{Bytes, Memory};
 use std::alloc::Global;
@@ -38,6 +38,8 @@ pub fn read(bytes: &[u8]) -> Result<SrapView<'_>, SrapFault>
     // What is read is spelt so, and what is spelt so is read.
     ensures read { IfOk result (λ v. IsSrap (srap_of v) bytes.now) }
     ensures spelt { (v : Srap) → IsSrap v bytes.now → IsOkAnd result (λ w. srap_of w ≡ v) }
+    // What is read can be written.
+    ensures fits { IfOk result (λ v. Fits (srap_of v)) }
     // A fault that comes is the first that holds, and the first that holds comes.
     ensures fault { IfErr result (IsFault bytes.now) }
     ensures refused { (fault : SrapFault) → IsFault bytes.now fault → result ≡ Err fault }

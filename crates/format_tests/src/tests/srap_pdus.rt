@@ -1,30 +1,28 @@
 // SRAP data PDUs (TS 38.351 clause 6.2).
-use super::row_of;
+use super::expect_rows;
 use srap_header::{read, write};
 use std::alloc::Global;
-use std::process::Abort;
 use std::test::Fail;
 
 // Octets, and the PDU that they spell: BEARER ID, UE ID, the data field, and the octets that are written of it; or their
-// first fault. The size of sequence numbers plays no part.
+// first fault.
 const ROWS: &str = "\
-12 80058000|0 5 [128, 0] 80058000
-12 9fff61|31 255 [97] 9fff61
-12 900061|16 0 [97] 900061
-12 9f0000|31 0 [0] 9f0000
-12 e00561|0 5 [97] 800561
-12 ffff61|31 255 [97] 9fff61
-12 |short
-12 05|control
-12 7f0561|control
-12 80|short
-12 8005|no-body";
+srap 80058000|0 5 [128, 0] 80058000
+srap 9fff61|31 255 [97] 9fff61
+srap 900061|16 0 [97] 900061
+srap 9f0000|31 0 [0] 9f0000
+srap e00561|0 5 [97] 800561
+srap ffff61|31 255 [97] 9fff61
+srap |short
+srap 05|control
+srap 7f0561|control
+srap 80|short
+srap 8005|no-body";
 
-/// What reading says: the fields of the PDU and the octets that are written of it, or the fault.
-fn reading(rt: &impl Abort, alloc: Global, octets: &[u8]) -> Result<String, Fail> {
+/// What reading says.
+pub(super) fn reading(alloc: Global, octets: &[u8]) -> Result<String, Fail> {
     match read(octets) {
         Ok(pdu) => {
-            assert!(rt; pdu.bearer < 32 && !pdu.body.is_empty());
             let written = write(alloc, pdu.bearer, pdu.ue, pdu.body)?;
             let digits = hex::encode(alloc, written.as_slice())?;
             let fields = format!(in alloc; "{} {} {:?}", pdu.bearer, pdu.ue, pdu.body)?;
@@ -36,11 +34,5 @@ fn reading(rt: &impl Abort, alloc: Global, octets: &[u8]) -> Result<String, Fail
 
 #[test]
 fn reads_and_writes(rt: HostRuntime) -> Result<(), Fail> {
-    let alloc = rt.alloc();
-    for text in ROWS.split('\n') {
-        let row = row_of(&rt, alloc, text)?;
-        let said = reading(&rt, alloc, &row.octets)?;
-        assert_eq!(rt; said.as_str(), row.want, "{text}");
-    }
-    Ok(())
+    expect_rows(&rt, rt.alloc(), ROWS)
 }

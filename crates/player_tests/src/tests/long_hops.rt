@@ -1,5 +1,6 @@
 // Long runs over a hop: one that loses PDUs, and one whose sequence numbers come round again and again.
-use super::{Session, TABLES, play_whole};
+use super::{Session, TABLES, play};
+use link_base::NumberList;
 use std::alloc::{AllocError, Global};
 use std::test::Fail;
 
@@ -133,18 +134,20 @@ impl LossyHop {
     }
 }
 
-/// The lines of a trace that tell of SDUs that were handed up; none where a PDU wasn't on the air or a sender was idle.
+/// The lines of a trace that tell of SDUs that were handed up.
 fn ups(alloc: Global, trace: &str) -> Result<String, AllocError> {
     let mut ups = String::new(alloc);
     for line in trace.lines() {
-        if line == "noair" || line == "idle" {
-            return Ok(String::new(alloc));
-        }
         if line.starts_with("  up ") {
             write!(ups, "{line}\n")?;
         }
     }
     Ok(ups)
+}
+
+/// Whether a PDU wasn't on the air, or a sender had nothing to send.
+fn was_in_vain(trace: &str) -> bool {
+    trace.lines().any(|line| line == "noair" || line == "idle")
 }
 
 #[test]
@@ -163,11 +166,12 @@ fn five_thousand_sdus_over_a_lossy_hop(rt: HostRuntime) -> Result<(), Fail> {
     for number in 0..5000 {
         write!(wanted, "  up 1 1 ul {number:080x}\n")?;
     }
-    let (status, written) = play_whole(alloc, hop.script.as_bytes(), 65_536)?;
+    let (none, no_more) = (NumberList::new(alloc), NumberList::new(alloc));
+    let (status, written) = play(&rt, alloc, hop.script.as_str(), 65_536, none, no_more)?;
     assert_eq!(rt; status, 0);
     let trace = str::from_utf8(written.as_slice())?;
     let totals = "total 1 1 ul 5000 5000 5000\ntotal 1 1 dl 0 0 0\ndone\n";
-    assert!(rt; trace.ends_with(totals));
+    assert!(rt; trace.ends_with(totals) && !was_in_vain(trace));
     assert_eq!(rt; ups(alloc, trace)?.as_str(), wanted.as_str());
     Ok(())
 }
@@ -218,11 +222,9 @@ fn push_status(session: &mut Session, round: u32) -> Result<(), AllocError> {
     let confirmed = round.saturating_add(1).saturating_mul(1000);
     let sn = confirmed % 4096;
     let rows = format!(in session.alloc;
-        "expire d1.1 high prohibit|{answer}\ngrant d1.1 dl 100|air {ticket} status {confirmed} {sn:04x}00"
+        "expire d1.1 high prohibit|{answer}\ngrant d1.1 dl 100|air {ticket} status {confirmed} {sn:04x}00\ndeliver {ticket}|  conf 1 1 ul {confirmed}|ok acks 1000"
     )?;
-    session.push(rows.as_str())?;
-    let row = format!(in session.alloc; "deliver {ticket}|  conf 1 1 ul {confirmed}|ok acks 1000")?;
-    session.push(row.as_str())
+    session.push(rows.as_str())
 }
 
 #[test]

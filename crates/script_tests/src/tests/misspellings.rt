@@ -1,6 +1,5 @@
 // Lines that are spelt otherwise than their form or a number's range wants.
 use super::{RUNNING, check_rows, stage_behind, verdict, with_text_before};
-use link_base::Bytes;
 use script_text::ScriptStage;
 use std::alloc::{AllocError, Global};
 use std::process::Abort;
@@ -71,27 +70,18 @@ fn check_additions(
     Ok(())
 }
 
-/// Reads a line that is none with a word too many, with one too few, and with a space at its end.
+/// Reads a line that is none with a word too many, with a space at its end, and with one word too few.
 fn check_word_counts(
     rt: &impl Abort,
     alloc: Global,
     stage: &mut ScriptStage,
     line: &str,
 ) -> Result<(), AllocError> {
-    let longer = format!(in alloc; "{line} 1")?;
-    assert_eq!(rt;
-        verdict(alloc, stage, longer.as_bytes()),
-        "form",
-        "{longer}"
-    );
-    let spaced = format!(in alloc; "{line} ")?;
-    assert_eq!(rt; verdict(alloc, stage, spaced.as_bytes()), "form", "{line}");
+    let rows = format!(in alloc; "form|{line} 1\nform|{line} ")?;
+    check_rows(rt, alloc, stage, rows.as_str());
     if let Some((shorter, _)) = line.rsplit_once(' ') {
-        assert_eq!(rt;
-            verdict(alloc, stage, shorter.as_bytes()),
-            "form",
-            "{shorter}"
-        );
+        let row = format!(in alloc; "form|{shorter}")?;
+        check_rows(rt, alloc, stage, row.as_str());
     }
     Ok(())
 }
@@ -409,23 +399,22 @@ fn refuses_numbers_past_their_ranges(rt: HostRuntime) -> Result<(), Fail> {
 }
 
 /// What reading a line with this many bytes says.
-fn verdict_of_length(alloc: Global, first: u8, length: u32) -> Result<&'static str, Fail> {
-    let mut line = Bytes::new(alloc);
-    line.push(first)?;
+fn verdict_of_length(alloc: Global, first: &str, length: u32) -> Result<&'static str, Fail> {
+    let mut line = String::from_str(alloc, first)?;
     for _ in 1..length {
-        line.push(b'a')?;
+        line.push_str("a")?;
     }
     let mut stage = stage_behind(alloc, RUNNING)?;
-    Ok(verdict(alloc, &mut stage, line.as_slice()))
+    Ok(verdict(alloc, &mut stage, line.as_bytes()))
 }
 
 #[test]
 fn tests_the_length_of_each_line_first(rt: HostRuntime) -> Result<(), Fail> {
     let alloc = rt.alloc();
-    assert_eq!(rt; verdict_of_length(alloc, b'#', 65_536)?, "skipped");
-    assert_eq!(rt; verdict_of_length(alloc, b'#', 65_537)?, "line");
-    assert_eq!(rt; verdict_of_length(alloc, b'a', 65_536)?, "word");
-    assert_eq!(rt; verdict_of_length(alloc, b'a', 65_537)?, "line");
-    assert_eq!(rt; verdict_of_length(alloc, b'\t', 65_537)?, "line");
+    assert_eq!(rt; verdict_of_length(alloc, "#", 65_536)?, "skipped");
+    assert_eq!(rt; verdict_of_length(alloc, "#", 65_537)?, "line");
+    assert_eq!(rt; verdict_of_length(alloc, "a", 65_536)?, "word");
+    assert_eq!(rt; verdict_of_length(alloc, "a", 65_537)?, "line");
+    assert_eq!(rt; verdict_of_length(alloc, "\t", 65_537)?, "line");
     Ok(())
 }

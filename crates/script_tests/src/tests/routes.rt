@@ -2,7 +2,7 @@
 use super::stage_behind;
 use bearer_map::{Ids, Tables, down_route, gnb_route, remote_route, up_route};
 use link_base::{Chan, LocalId, Memory, Remote};
-use std::alloc::Global;
+use std::alloc::{AllocError, Global};
 use std::process::Abort;
 use std::test::Fail;
 
@@ -148,15 +148,18 @@ const ROWS: &str = "\
 [MapRow { remote: Remote(1), drb: Drb(1), pc5: Chan(1), uu: Chan(1) }, MapRow { remote: Remote(2), drb: Drb(1), pc5: Chan(1), uu: Chan(1) }]
 Settings { queue: 1024, report: 512, poll_pdu: 32, poll_byte: 0, max_retx: 255 }";
 
+/// The rows of each table, and the settings.
+fn rows_of(alloc: Global, tables: &Tables) -> Result<String, AllocError> {
+    let (remotes, bearers, uus) = (tables.remotes(), tables.bearers(), tables.uus());
+    let (pc5s, maps, settings) = (tables.pc5s(), tables.maps(), tables.settings());
+    format!(in alloc; "{remotes:?}\n{bearers:?}\n{uus:?}\n{pc5s:?}\n{maps:?}\n{settings:?}")
+}
+
 #[test]
 fn keeps_rows_in_order(rt: HostRuntime) -> Result<(), Fail> {
-    let alloc = rt.alloc();
-    let (given, _) = two_remotes(&rt, alloc)?;
-    let tables = given.copy(alloc)?;
-    let mut text = String::new(alloc);
-    write!(text, "{:?}\n{:?}\n", tables.remotes(), tables.bearers())?;
-    write!(text, "{:?}\n{:?}\n", tables.uus(), tables.pc5s())?;
-    write!(text, "{:?}\n{:?}", tables.maps(), tables.settings())?;
-    assert_eq!(rt; text.as_str(), ROWS);
+    let (given, _) = two_remotes(&rt, rt.alloc())?;
+    let tables = given.copy(rt.alloc())?;
+    let rows = rows_of(rt.alloc(), &tables)?;
+    assert_eq!(rt; rows.as_str(), ROWS);
     Ok(())
 }

@@ -30,82 +30,80 @@ fn names_each_form(rt: HostRuntime) -> Result<(), Fail> {
     Ok(())
 }
 
-/// What is shown of a word's form and of the bytes that hexadecimal digits spell, the lines ending with bars; and whether
-/// the bytes are a PDU.
-fn shown(rt: &impl Abort, alloc: Global, word: &str, digits: &str) -> Result<(String, bool), Fail> {
-    let (Some(form), Some(bytes)) = (
-        form_of(word.as_bytes()),
-        hex_bytes(alloc, digits.as_bytes())?,
-    ) else {
-        panic!(rt; "no form or no bytes: {word} {digits}");
+/// Shows the bytes that hexadecimal digits spell in the form with this name. Whether they are a PDU, and what is shown.
+fn shown(rt: &impl Abort, alloc: Global, name: &str, digits: &str) -> Result<String, Fail> {
+    let Some(form) = form_of(name.as_bytes()) else {
+        panic!(rt; "no such form: {name}");
+    };
+    let Some(bytes) = hex_bytes(alloc, digits.as_bytes())? else {
+        panic!(rt; "no bytes: {digits}");
     };
     let mut out = String::new(alloc);
-    let read = push_shown(alloc, &mut out, form, bytes.as_slice())?;
-    let mut text = String::new(alloc);
-    for line in out.as_str().lines() {
-        write!(text, "{line}|")?;
-    }
-    Ok((text, read))
+    let is_read = push_shown(alloc, &mut out, form, bytes.as_slice())?;
+    Ok(format!(in alloc; "{is_read}\n{out}")?)
 }
 
-/// Shows the bytes of each row, which are a PDU or not. The lines that are shown stand behind the first bar.
+/// Shows the bytes of each row, which are a PDU or not. What is shown stands behind bars, which stand for line ends.
 fn expect_shown(rt: &impl Abort, alloc: Global, rows: &str, is_read: bool) -> Result<(), Fail> {
     for row in rows.split('\n') {
-        let Some((call, want)) = row.split_once('|') else {
+        let Some((call, lines)) = row.split_once('|') else {
             panic!(rt; "a row without a bar");
         };
-        let (word, digits) = call.split_once(' ').unwrap_or((call, ""));
-        let (text, read) = shown(rt, alloc, word, digits)?;
-        assert_eq!(rt; read, is_read, "{call}");
-        assert_eq!(rt; text.as_str(), want, "{call}");
+        let (name, digits) = call.split_once(' ').unwrap_or((call, ""));
+        let mut want = format!(in alloc; "{is_read}\n")?;
+        for line in lines.split('|') {
+            write!(want, "{line}\n")?;
+        }
+        let said = shown(rt, alloc, name, digits)?;
+        assert_eq!(rt; said.as_str(), want.as_str(), "{call}");
     }
     Ok(())
 }
 
 const FIELDS: &str = "\
-amd12 c00080006869|amd sn 0 poll 1 si whole so 0 body 80006869|
-amd12 9fffFF|amd sn 4095 poll 0 si first so 0 body ff|
-amd12 e102232c61|amd sn 258 poll 1 si last so 9004 body 61|
-amd12 b00000016162|amd sn 0 poll 0 si middle so 1 body 6162|
-amd18 cfffff61|amd sn 262143 poll 1 si whole so 0 body 61|
-amd18 a20304123461|amd sn 131844 poll 0 si last so 4660 body 61|
-status12 0003800010|status ack 3 nacks 1|nack 1 part - range -|
-status12 00028000140005ffff|status ack 2 nacks 1|nack 1 part 5-65535 range -|
-status12 0fff00|status ack 4095 nacks 0|
-status12 002080001a030ffe0009000402abc40000ffff|status ack 32 nacks 3|nack 1 part - range 3|nack 255 part 9-4 range 2|nack 2748 part 0-65535 range -|
-status18 0ffffd|status ack 262143 nacks 0|
-status18 00000e0001e080c11812345678ff|status ack 3 nacks 2|nack 7 part - range -|nack 131844 part 4660-22136 range 255|
-srap 800580006869|srap bearer 0 ue 5 body 80006869|
-srap ffff00|srap bearer 31 ue 255 body 00|";
+amd12 c00080006869|amd sn 0 poll 1 si whole so 0 body 80006869
+amd12 9fffFF|amd sn 4095 poll 0 si first so 0 body ff
+amd12 e102232c61|amd sn 258 poll 1 si last so 9004 body 61
+amd12 b00000016162|amd sn 0 poll 0 si middle so 1 body 6162
+amd18 cfffff61|amd sn 262143 poll 1 si whole so 0 body 61
+amd18 a20304123461|amd sn 131844 poll 0 si last so 4660 body 61
+status12 0003800010|status ack 3 nacks 1|nack 1 part - range -
+status12 00028000140005ffff|status ack 2 nacks 1|nack 1 part 5-65535 range -
+status12 0fff00|status ack 4095 nacks 0
+status12 002080001a030ffe0009000402abc40000ffff|status ack 32 nacks 3|nack 1 part - range 3|nack 255 part 9-4 range 2|nack 2748 part 0-65535 range -
+status18 0ffffd|status ack 262143 nacks 0
+status18 00000e0001e080c11812345678ff|status ack 3 nacks 2|nack 7 part - range -|nack 131844 part 4660-22136 range 255
+srap 800580006869|srap bearer 0 ue 5 body 80006869
+srap ffff00|srap bearer 31 ue 255 body 00";
 
 const FAULTS: &str = "\
-amd12 -|refused short|
-amd12 80|refused short|
-amd12 00|refused control|
-amd12 a000000061|refused zero-offset|
-amd12 8000|refused no-body|
-amd12 a000232d61|refused long|
-amd18 8000|refused short|
-amd18 7fffff61|refused control|
-amd18 b00000000061|refused zero-offset|
-amd18 800000|refused no-body|
-amd18 a00000232d61|refused long|
-status12 00|refused short|
-status12 800000|refused is-data|
-status12 100000|refused reserved-type|
-status12 000080001200|refused zero-range|
-status12 000080001400050004|refused back-part|
-status12 00000000|refused trailing|
-status18 0000|refused short|
-status18 ff0000|refused is-data|
-status18 700000|refused reserved-type|
-status18 00000200004800|refused zero-range|
-status18 00000200005000050004|refused back-part|
-status18 0000000f|refused trailing|
-srap -|refused short|
-srap 80|refused short|
-srap 050561|refused control|
-srap 8005|refused no-body|";
+amd12 -|refused short
+amd12 80|refused short
+amd12 00|refused control
+amd12 a000000061|refused zero-offset
+amd12 8000|refused no-body
+amd12 a000232d61|refused long
+amd18 8000|refused short
+amd18 7fffff61|refused control
+amd18 b00000000061|refused zero-offset
+amd18 800000|refused no-body
+amd18 a00000232d61|refused long
+status12 00|refused short
+status12 800000|refused is-data
+status12 100000|refused reserved-type
+status12 000080001200|refused zero-range
+status12 000080001400050004|refused back-part
+status12 00000000|refused trailing
+status18 0000|refused short
+status18 ff0000|refused is-data
+status18 700000|refused reserved-type
+status18 00000200004800|refused zero-range
+status18 00000200005000050004|refused back-part
+status18 0000000f|refused trailing
+srap -|refused short
+srap 80|refused short
+srap 050561|refused control
+srap 8005|refused no-body";
 
 #[test]
 fn shows_each_field_and_each_fault(rt: HostRuntime) -> Result<(), Fail> {
