@@ -1,5 +1,6 @@
 -- An SDU is accepted, a timer runs out, a PDU is on the air no more.
 use Rattle.std.proofs.Common.{◌≡◌, ◌≢◌, ℕ, ◌+◌, ◌-◌, ◌<◌, ◌≤◌, Bool, true, false, eqb, cond, List, [], ◌∷◌, ◌++◌, length, get_or, Option, Some, None, refl, sym, ◌∙◌, ap, subst, arith, inl, inr, length-append}
+use Rattle.std.specs.List.{Contains}
 use Rattle.std.proofs.Math.ListN.{set, length-set}
 use Rattle.std.proofs.lemmas.Bool.{cases_eq, cases_lt, false≢true}
 use Rattle.std.proofs.lemmas.Option.{none-some}
@@ -23,9 +24,10 @@ use Rattle.chain_model.specs.declared.table.BearerTable.{BearerTable}
 use Rattle.chain_model.specs.Tables.{has_port}
 use Rattle.rlc_model.specs.declared.hop.Pdu.{Pdu}
 use Rattle.rlc_model.specs.Hop.{off_air}
+use Rattle.rlc_model.specs.Heard.{Data}
 use Rattle.chain_model.specs.Chain.{Chain}
 use Rattle.chain_model.specs.Steps.{IsKey, grant_refusal, expire_refusal, tag_of, pdcp_pdu, without}
-use Rattle.chain_law.specs.Fits.{FitsHop, IsGiven}
+use Rattle.chain_law.specs.Fits.{FitsHop, IsGiven, IsSentData}
 use Rattle.chain_law.proofs.FitsFacts.{no_refusal, turned, IsFree, hop_tx, hop_size}
 use Rattle.chain_law.proofs.FitsPassed.{passed_same, passed_more, got_same}
 
@@ -181,4 +183,18 @@ without_fits c hop ticket f = record {
   given = f.given;
   air = λ n other here. f.air n other (taken_off c.air ticket n other here);
   passed = f.passed;
+}
+
+-- a data PDU is among more PDUs too
+pub more_data : (table : BearerTable) (pdus more : List Data) (pdu : Pdu) → ((d : Data) → Contains pdus d → Contains more d) → IsSentData table pdus pdu → IsSentData table more pdu
+more_data table pdus more pdu keeps s = record {
+  made = s.made;
+  among = keeps s.made s.among;
+  number = s.number;
+  bytes = s.bytes;
+  is_data = s.is_data;
+  key = s.key;
+  its_key = s.its_key;
+  port = s.port;
+  way = s.way;
 }

@@ -26,7 +26,7 @@ use Rattle.chain_model.specs.Chain.{Chain}
 use Rattle.chain_law.specs.Fits.{FitsHop, IsSent, IsSentData, IsSentReport}
 use Rattle.chain_law.proofs.FitsFacts.{heard_size}
 use Rattle.chain_law.proofs.FitsPassed.{passed_same, got_same}
-use Rattle.chain_law.proofs.FitsMore.{next_ack_grows, given_later, port_key}
+use Rattle.chain_law.proofs.FitsMore.{next_ack_grows, given_later, port_key, more_data}
 
 -- the PDU that a grant puts on the air
 abbrev pub entry_of : PortName → Way → Bool → ℕ → List ℕ → Pdu
@@ -49,17 +49,7 @@ hop_sent hop tx number v = record hop { tx = tx; pdus = record { number = number
 
 -- what was sent stays among more data PDUs
 sent_more : (table : BearerTable) (hop : Hop) (tx : Tx) (number : ℕ) (v : Amd) (pdu : Pdu) → IsSent table hop pdu → IsSent table (hop_sent hop tx number v) pdu
-sent_more table hop tx number v pdu (inl s) = inl (record {
-  made = s.made;
-  among = contains_later (record { number = number; view = v }) hop.pdus s.made s.among;
-  number = s.number;
-  bytes = s.bytes;
-  is_data = s.is_data;
-  key = s.key;
-  its_key = s.its_key;
-  port = s.port;
-  way = s.way;
-})
+sent_more table hop tx number v pdu (inl s) = inl (more_data table hop.pdus (record { number = number; view = v } ∷ hop.pdus) pdu (contains_later (record { number = number; view = v }) hop.pdus) s)
 sent_more table hop tx number v pdu (inr s) = inr s
 
 -- the data PDU of a grant is one that the hop's transmitter has made

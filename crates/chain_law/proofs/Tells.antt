@@ -29,7 +29,7 @@ use Rattle.chain_model.specs.Chain.{Chain}
 use Rattle.chain_model.specs.Steps.{IsKey, Stands, without}
 use Rattle.chain_law.specs.Fits.{FitsHop, IsSentData}
 use Rattle.chain_law.proofs.FitsFacts.{confirms_next, deliv_is}
-use Rattle.chain_law.proofs.FitsMore.{without_fits, taken_off}
+use Rattle.chain_law.proofs.FitsMore.{without_fits, taken_off, more_data}
 use Rattle.chain_law.proofs.Booked.{Booked, Adds, book_more}
 use Rattle.chain_law.proofs.Staged.{is_go, Staged, staged_on}
 use Rattle.chain_law.proofs.HeardIn.{HeardIn, IsSilent, heard_same}
@@ -61,20 +61,6 @@ tickets_same table pdus air h e k enters = record {
   bearer = λ t pdu here. k.bearer t pdu (sym (enters t (air_entry h t)) ∙ here);
   sent = λ t pdu here. k.sent t pdu (sym (enters t (air_entry h t)) ∙ here);
   there = λ n pdu here. enters (n + 1) (air_entry h (n + 1)) ∙ k.there n pdu here;
-}
-
--- a data PDU is among more PDUs too
-more_data : (table : BearerTable) (pdus more : List Data) (pdu : Pdu) → ((d : Data) → Contains pdus d → Contains more d) → IsSentData table pdus pdu → IsSentData table more pdu
-more_data table pdus more pdu keeps s = record {
-  made = s.made;
-  among = keeps s.made s.among;
-  number = s.number;
-  bytes = s.bytes;
-  is_data = s.is_data;
-  key = s.key;
-  its_key = s.its_key;
-  port = s.port;
-  way = s.way;
 }
 
 -- an entry that sends a PDU

@@ -78,8 +78,9 @@ overflow_sub-self c =
     } in
     omega (arith, tags_counted size c.args.threshold ack base nacks ms waits a.slots.items c.pend_all.new.slots.items c.confirm_unnamed.new.slots.items c.count_named.new.slots.items c.pend_all.new.named c.pend_all.new.fresh c.confirm_unnamed.new.tags.items c.count_named.new.marks.items s, c.self.invariant.count)
 
-pub invariant_of-self-2 : goal.invariant_of-self-2
-invariant_of-self-2 c =
+-- what marking, confirming and counting did to the slots
+steps : (c : goal.After-drop-mentions-2) → Steps c.args.size c.args.threshold c.args.ack c.self.inside.next_ack c.args.nacks.now c.deref.result.now (λ n. contains nat_cmp c.mention_all.new.waiting n ≡ true) c.self.inside.slots.items c.pend_all.new.slots.items c.confirm_unnamed.new.slots.items c.count_named.new.slots.items c.pend_all.new.named c.pend_all.new.fresh c.confirm_unnamed.new.tags.items c.count_named.new.marks.items
+steps c =
     let a = c.self.inside in
     let base = a.next_ack in
     let ack = c.args.ack in
@@ -89,7 +90,7 @@ invariant_of-self-2 c =
     let waits : ℕ → Type 0 = λ n. contains nat_cmp c.mention_all.new.waiting n ≡ true in
     let from : base ≤ ack = omega (arith, kept_front base a.slots.items c.self.invariant.front, ap (prefix_len is_none) c.self.view_is, c.requires.from) in
     let mentions : MentionsAll size ack base nacks ms waits = subst (λ (x : List Mention). MentionsAll size ack base nacks x waits) (sym c.deref.ensures.value) c.in_ok-mention_all.ensures.ok in
-    let s : Steps size c.args.threshold ack base nacks ms waits a.slots.items c.pend_all.new.slots.items c.confirm_unnamed.new.slots.items c.count_named.new.slots.items c.pend_all.new.named c.pend_all.new.fresh c.confirm_unnamed.new.tags.items c.count_named.new.marks.items = record {
+    record {
       from = from;
       len = omega (arith, c.as_mut_slice-named.ensures.len, c.in_ok-named_flags.ensures.len);
       mentions = mentions;
@@ -106,7 +107,18 @@ invariant_of-self-2 c =
       long3 = c.count_named.ensures.long;
       tags_are = c.confirm_unnamed.ensures.tags;
       marks_are = c.count_named.ensures.marks;
-    } in
+    }
+
+pub invariant_of-self-2 : goal.invariant_of-self-2
+invariant_of-self-2 c =
+    let a = c.self.inside in
+    let base = a.next_ack in
+    let ack = c.args.ack in
+    let size = c.args.size in
+    let nacks = c.args.nacks.now in
+    let ms = c.deref.result.now in
+    let waits : ℕ → Type 0 = λ n. contains nat_cmp c.mention_all.new.waiting n ≡ true in
+    let s = steps c in
     let sent : (n : ℕ) → n < ack → (Some_has (λ e. NamesNumber size ack e n) nacks → ⊥) → is_unsent (at (kept_from base a.slots.items) n) ≡ false = λ n lt none. ap (λ (l : List (Option Kept)). is_unsent (at l n)) c.self.view_is ∙ c.requires.sent n lt none in
     let tidy = acked_tidy size c.args.threshold ack base nacks ms waits a.slots.items c.pend_all.new.slots.items c.confirm_unnamed.new.slots.items c.count_named.new.slots.items c.pend_all.new.named c.pend_all.new.fresh c.confirm_unnamed.new.tags.items c.count_named.new.marks.items s a.unconfirmed a.unsent (λ n. contains nat_cmp a.waiting n ≡ true) c.in_ok-mention_all.ensures.kept c.self.invariant sent c.pop_confirmed.result c.pop_confirmed.new.slots.items c.pop_confirmed.ensures.kept c.pop_confirmed.ensures.front in
     let few : c.len.result ≡ length c.confirm_unnamed.new.tags.items = omega arith in
@@ -121,26 +133,7 @@ returns-clause-counts c =
     let nacks = c.args.nacks.now in
     let ms = c.deref.result.now in
     let waits : ℕ → Type 0 = λ n. contains nat_cmp c.mention_all.new.waiting n ≡ true in
-    let from : base ≤ ack = omega (arith, kept_front base a.slots.items c.self.invariant.front, ap (prefix_len is_none) c.self.view_is, c.requires.from) in
-    let mentions : MentionsAll size ack base nacks ms waits = subst (λ (x : List Mention). MentionsAll size ack base nacks x waits) (sym c.deref.ensures.value) c.in_ok-mention_all.ensures.ok in
-    let s : Steps size c.args.threshold ack base nacks ms waits a.slots.items c.pend_all.new.slots.items c.confirm_unnamed.new.slots.items c.count_named.new.slots.items c.pend_all.new.named c.pend_all.new.fresh c.confirm_unnamed.new.tags.items c.count_named.new.marks.items = record {
-      from = from;
-      len = omega (arith, c.as_mut_slice-named.ensures.len, c.in_ok-named_flags.ensures.len);
-      mentions = mentions;
-      within = λ i h. omega (arith, names_below size ack (base + i) nacks c.requires.below ((mentions.numbers i).0 h));
-      places = place_index ms;
-      pends = c.pend_all.ensures.each;
-      names = c.pend_all.ensures.named;
-      confirms = c.confirm_unnamed.ensures.each;
-      confirms_rest = c.confirm_unnamed.ensures.rest;
-      counts = c.count_named.ensures.each;
-      counts_rest = c.count_named.ensures.rest;
-      long1 = c.pend_all.ensures.long;
-      long2 = c.confirm_unnamed.ensures.long;
-      long3 = c.count_named.ensures.long;
-      tags_are = c.confirm_unnamed.ensures.tags;
-      marks_are = c.count_named.ensures.marks;
-    } in
+    let s = steps c in
     let sent : (n : ℕ) → n < ack → (Some_has (λ e. NamesNumber size ack e n) nacks → ⊥) → is_unsent (at (kept_from base a.slots.items) n) ≡ false = λ n lt none. ap (λ (l : List (Option Kept)). is_unsent (at l n)) c.self.view_is ∙ c.requires.sent n lt none in
     let popped = pop_list base c.pop_confirmed.result c.count_named.new.slots.items c.pop_confirmed.new.slots.items c.pop_confirmed.ensures.kept in
     λ n.
@@ -158,26 +151,7 @@ returns-clause-ok c =
     let nacks = c.args.nacks.now in
     let ms = c.deref.result.now in
     let waits : ℕ → Type 0 = λ n. contains nat_cmp c.mention_all.new.waiting n ≡ true in
-    let from : base ≤ ack = omega (arith, kept_front base a.slots.items c.self.invariant.front, ap (prefix_len is_none) c.self.view_is, c.requires.from) in
-    let mentions : MentionsAll size ack base nacks ms waits = subst (λ (x : List Mention). MentionsAll size ack base nacks x waits) (sym c.deref.ensures.value) c.in_ok-mention_all.ensures.ok in
-    let s : Steps size c.args.threshold ack base nacks ms waits a.slots.items c.pend_all.new.slots.items c.confirm_unnamed.new.slots.items c.count_named.new.slots.items c.pend_all.new.named c.pend_all.new.fresh c.confirm_unnamed.new.tags.items c.count_named.new.marks.items = record {
-      from = from;
-      len = omega (arith, c.as_mut_slice-named.ensures.len, c.in_ok-named_flags.ensures.len);
-      mentions = mentions;
-      within = λ i h. omega (arith, names_below size ack (base + i) nacks c.requires.below ((mentions.numbers i).0 h));
-      places = place_index ms;
-      pends = c.pend_all.ensures.each;
-      names = c.pend_all.ensures.named;
-      confirms = c.confirm_unnamed.ensures.each;
-      confirms_rest = c.confirm_unnamed.ensures.rest;
-      counts = c.count_named.ensures.each;
-      counts_rest = c.count_named.ensures.rest;
-      long1 = c.pend_all.ensures.long;
-      long2 = c.confirm_unnamed.ensures.long;
-      long3 = c.count_named.ensures.long;
-      tags_are = c.confirm_unnamed.ensures.tags;
-      marks_are = c.count_named.ensures.marks;
-    } in
+    let s = steps c in
     let popped = pop_list base c.pop_confirmed.result c.count_named.new.slots.items c.pop_confirmed.new.slots.items c.pop_confirmed.ensures.kept in
     λ t st size_is threshold_is kept_is nacks_is.
     let updates = updates_list size c.args.threshold ack base nacks ms waits a.slots.items c.pend_all.new.slots.items c.confirm_unnamed.new.slots.items c.count_named.new.slots.items c.pend_all.new.named c.pend_all.new.fresh c.confirm_unnamed.new.tags.items c.count_named.new.marks.items s t st size_is threshold_is (kept_is ∙ sym c.self.view_is) nacks_is in
