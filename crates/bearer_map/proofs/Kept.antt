@@ -10,19 +10,19 @@ use Rattle.link_base.specs.declared.names.Way.{Way}
 use Rattle.link_base.specs.declared.names.Way.TheVariants.{Ul, Dl}
 use Rattle.bearer_map.specs.declared.rows.RemoteRow.{RemoteRow}
 use Rattle.bearer_map.specs.declared.rows.BearerRow.{BearerRow}
-use Rattle.bearer_map.specs.Order.{has, in_order}
+use Rattle.bearer_map.specs.Order.{has_row, in_order}
 use Rattle.bearer_map.specs.Contents.{AreRemotes, AreBearers, remote_rank, bearer_rank, bearers_of, pair}
 use Rattle.bearer_map.specs.Lines.{begins_at, with_first, goes_to}
 use Rattle.bearer_map.proofs.Ordered.{ascending_in_order, length-in_order, few_in_order, ascending_map, sum_by-map_same}
 
 -- what a test found of a slice of the rows
-pub absent : {T : Type 0} (rank : T → ℕ) (slice rows : List T) (n m : ℕ) (b : Bool) → b ≡ has rank slice n → slice ≡ rows → n ≡ m → b ≡ false → has rank rows m ≡ false
-absent {T} rank slice rows n m b is same of none = sym (is ∙ (ap (λ (xs : List T). has rank xs n) same ∙ ap (λ (k : ℕ). has rank rows k) of)) ∙ none
+pub absent : {T : Type 0} (rank : T → ℕ) (slice rows : List T) (n m : ℕ) (b : Bool) → b ≡ has_row rank slice n → slice ≡ rows → n ≡ m → b ≡ false → has_row rank rows m ≡ false
+absent {T} rank slice rows n m b is same of none = sym (is ∙ (ap (λ (xs : List T). has_row rank xs n) same ∙ ap (λ (k : ℕ). has_row rank rows k) of)) ∙ none
 
-pub one_more_remote : (row : RemoteRow) (rows : List RemoteRow) → AreRemotes rows → has remote_rank rows (remote_rank row) ≡ false → length rows < 8 → AreRemotes (in_order remote_rank row rows)
+pub one_more_remote : (row : RemoteRow) (rows : List RemoteRow) → AreRemotes rows → has_row remote_rank rows (remote_rank row) ≡ false → length rows < 8 → AreRemotes (in_order remote_rank row rows)
 one_more_remote row rows are new room = record { ascend = ascending_in_order remote_rank row rows are.ascend new; few = omega (arith, length-in_order remote_rank row rows) }
 
-pub one_more_bearer : (row : BearerRow) (rows : List BearerRow) → AreBearers rows → has bearer_rank rows (bearer_rank row) ≡ false → bearers_of row.remote.0 rows < 8 → AreBearers (in_order bearer_rank row rows)
+pub one_more_bearer : (row : BearerRow) (rows : List BearerRow) → AreBearers rows → has_row bearer_rank rows (bearer_rank row) ≡ false → bearers_of row.remote.0 rows < 8 → AreBearers (in_order bearer_rank row rows)
 one_more_bearer row rows are new room = record {
   ascend = ascending_in_order bearer_rank row rows are.ascend new;
   few = λ remote. few_in_order (λ r. r.remote.0 == remote) bearer_rank row rows (are.few remote) (λ same. rw (eqb-true _ _ same) at room);

@@ -4,7 +4,7 @@ use Rattle.std.specs.Prelude.{nat_lt, ◌==◌, ◌||◌, count_by, sum_by}
 use Rattle.std.specs.List.{AllByRecursion}
 use Rattle.std.proofs.lemmas.Bool.{ltb-true, ltb-false, eqb-false}
 use Rattle.std.proofs.lemmas.List.Sums.{sum_by-cons}
-use Rattle.bearer_map.specs.Order.{has, in_order, IsAscending}
+use Rattle.bearer_map.specs.Order.{has_row, in_order, IsAscending}
 
 -- what is above a rank is above each lower one
 above : {T : Type 0} (rank : T → ℕ) (low high : ℕ) (rows : List T) → low < high → AllByRecursion (λ x. high < rank x) rows → AllByRecursion (λ x. low < rank x) rows
@@ -30,10 +30,10 @@ at_place : {T : Type 0} (rank : T → ℕ) (row r : T) (rows : List T) (b : Bool
 at_place rank row r rows true here later up rest = ((here refl, above rank (rank row) (rank r) rows (here refl) up.0), up)
 at_place {T} rank row r rows false here later up rest = (all_in_order (λ (x : T). rank r < rank x) rank row rows (later refl) up.0, rest)
 
-pub ascending_in_order : {T : Type 0} (rank : T → ℕ) (row : T) (rows : List T) → IsAscending rank rows → has rank rows (rank row) ≡ false → IsAscending rank (in_order rank row rows)
+pub ascending_in_order : {T : Type 0} (rank : T → ℕ) (row : T) (rows : List T) → IsAscending rank rows → has_row rank rows (rank row) ≡ false → IsAscending rank (in_order rank row rows)
 ascending_in_order rank row [] up new = (tt, tt)
 ascending_in_order rank row (r ∷ rows) up new =
-    let apart = not_here (rank r == rank row) (has rank rows (rank row)) new in
+    let apart = not_here (rank r == rank row) (has_row rank rows (rank row)) new in
     at_place rank row r rows (nat_lt (rank row) (rank r)) (λ t. ltb-true _ _ t) (λ f. omega (arith, ltb-false _ _ f, eqb-false _ _ apart.0)) up (ascending_in_order rank row rows up.1 apart.1)
 
 pub length-in_order : {T : Type 0} (rank : T → ℕ) (row : T) (rows : List T) → length (in_order rank row rows) ≡ suc (length rows)

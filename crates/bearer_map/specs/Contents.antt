@@ -37,24 +37,31 @@ abbrev pub way_rank : Way → ℕ
 way_rank Ul = 0
 way_rank Dl = 1
 
+-- the order of remotes by their name
 abbrev pub name_rank : Remote → ℕ
 name_rank r = r.0
 
+-- the order of keys: by bearer, uplink first
 abbrev pub key_rank : Key → ℕ
 key_rank k = pair k.remote.0 k.drb.0 * 2 + way_rank k.way
 
+-- the order of the rows of remotes
 abbrev pub remote_rank : RemoteRow → ℕ
 remote_rank r = r.remote.0
 
+-- the order of the rows of bearers
 abbrev pub bearer_rank : BearerRow → ℕ
 bearer_rank r = pair r.remote.0 r.drb.0
 
+-- the order of the rows of Uu channels
 abbrev pub uu_rank : UuRow → ℕ
 uu_rank r = r.chan.0
 
+-- the order of the rows of PC5 channels
 abbrev pub pc5_rank : Pc5Row → ℕ
 pc5_rank r = pair r.remote.0 r.chan.0
 
+-- the order of the rows that map bearers to channels
 abbrev pub map_rank : MapRow → ℕ
 map_rank r = pair r.remote.0 r.drb.0
 

@@ -4,14 +4,13 @@ use Rattle.link_base.specs.declared.names.Remote.{Remote}
 use Rattle.link_base.specs.declared.names.LocalId.{LocalId}
 use Rattle.bearer_map.specs.declared.ids.Attachment.{Attachment}
 
+-- an attachment of this remote with this local identity
 abbrev pub attachment : Remote → LocalId → Attachment
 attachment remote id = record { remote = remote; id = id }
 
+-- whether it is this remote's
 abbrev pub has_remote : Remote → Attachment → Bool
 has_remote remote a = a.remote.0 == remote.0
-
-abbrev pub has_id : LocalId → Attachment → Bool
-has_id id a = a.id.0 == id.0
 
 -- the node attaches this local identity to this remote
 abbrev pub IsAttached : List Attachment → Remote → ℕ → Type 0

@@ -3,8 +3,8 @@ use Rattle.std.specs.Prelude.{ℕ, ◌<◌, ◌==◌, Bool, List, [], ◌∷◌,
 use Rattle.std.specs.List.{list_any, AllByRecursion}
 
 -- one of the rows has this rank
-abbrev pub has : {T : Type 0} → (T → ℕ) → List T → ℕ → Bool
-has rank rows n = list_any (λ row. rank row == n) rows
+abbrev pub has_row : {T : Type 0} → (T → ℕ) → List T → ℕ → Bool
+has_row rank rows n = list_any (λ row. rank row == n) rows
 
 -- the rows and one more, before the first of a higher rank
 abbrev pub in_order : {T : Type 0} → (T → ℕ) → T → List T → List T

@@ -25,6 +25,7 @@ choice_of PollPdu c = c.poll_pdu
 choice_of PollByte c = c.poll_byte
 choice_of MaxRetx c = c.max_retx
 
+-- the choices and this one
 abbrev pub choose : SetName → ℕ → Choices → Choices
 choose Queue value c = record c { queue = Some value }
 choose Report value c = record c { report = Some value }

@@ -1,13 +1,14 @@
 // Numbers of table lines as names.
 ghost use Rattle.std.specs.Prelude.{◌≡◌, if◌then◌else◌, Ok, Err};
-ghost use Rattle.bearer_map.specs.Lines.{is_remote, is_drb, is_chan, is_size, size_of};
+ghost use Rattle.bearer_map.specs.Lines.{is_remote, is_drb, is_chan, is_size, sn_size_of};
 
 use crate::TableFault;
 use link_base::{Chan, Drb, Remote, SnSize};
 
 /// The remote of a number from 1 to 65,535.
 pub(crate) fn remote_of(number: u32) -> Result<Remote, TableFault>
-    ensures { result ≡ (if is_remote number then Ok (record { 0 = number }) else Err TableFault.Range) }
+    ensures { result ≡ (if is_remote number then Ok (record { 0 = number })
+        else Err TableFault.Range) }
 {
     if (1..=65_535).contains(&number) {
         Ok(Remote(number as u16))
@@ -18,7 +19,8 @@ pub(crate) fn remote_of(number: u32) -> Result<Remote, TableFault>
 
 /// The bearer of a number from 1 to 32.
 pub(crate) fn drb_of(number: u32) -> Result<Drb, TableFault>
-    ensures { result ≡ (if is_drb number then Ok (record { 0 = number }) else Err TableFault.Range) }
+    ensures { result ≡ (if is_drb number then Ok (record { 0 = number })
+        else Err TableFault.Range) }
 {
     if (1..=32).contains(&number) {
         Ok(Drb(number as u8))
@@ -29,7 +31,8 @@ pub(crate) fn drb_of(number: u32) -> Result<Drb, TableFault>
 
 /// The channel of a number from 1 to 8.
 pub(crate) fn chan_of(number: u32) -> Result<Chan, TableFault>
-    ensures { result ≡ (if is_chan number then Ok (record { 0 = number }) else Err TableFault.Range) }
+    ensures { result ≡ (if is_chan number then Ok (record { 0 = number })
+        else Err TableFault.Range) }
 {
     if (1..=8).contains(&number) {
         Ok(Chan(number as u8))
@@ -40,7 +43,7 @@ pub(crate) fn chan_of(number: u32) -> Result<Chan, TableFault>
 
 /// The size of sequence numbers of 12 or 18 bits.
 pub(crate) fn sn_size_of(bits: u32) -> Result<SnSize, TableFault>
-    ensures { result ≡ (if is_size bits then Ok (size_of bits) else Err TableFault.Range) }
+    ensures { result ≡ (if is_size bits then Ok (sn_size_of bits) else Err TableFault.Range) }
 {
     match bits {
         12 => Ok(SnSize::S12),

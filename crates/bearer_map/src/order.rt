@@ -1,7 +1,7 @@
 // Rows in ascending order of their names.
 ghost use Rattle.std.specs.Prelude.{◌≡◌, ℕ, OnOk, OnErr, ◌<◌, ◌^◌, length, nat_lt, unwrap_or};
 ghost use Rattle.std.specs.List.{position};
-ghost use Rattle.bearer_map.specs.Order.{has, in_order};
+ghost use Rattle.bearer_map.specs.Order.{has_row, in_order};
 ghost use Rattle.bearer_map.specs.Contents.{pair, name_rank, key_rank, remote_rank, bearer_rank, uu_rank, pc5_rank, map_rank};
 
 use crate::{BearerRow, MapRow, Pc5Row, RemoteRow, UuRow};
@@ -19,14 +19,15 @@ pub(crate) trait Row: Copy + Drop {
 
 /// Whether a row has this rank.
 pub(crate) fn has_rank<T: Row>(rows: &[T], rank: u32) -> bool
-    ensures { result ≡ has T.rank_of rows.now rank }
+    ensures { result ≡ has_row T.rank_of rows.now rank }
 {
     rows.iter().any(|row| row.rank() == rank)
 }
 
 /// The place of the first row of a higher rank, or the end.
 fn place_of<T: Row>(rows: &[T], rank: u32) -> usize
-    ensures { result ≡ unwrap_or (position (λ row. nat_lt rank (T.rank_of row)) rows.now) (length rows.now) }
+    ensures { result ≡ unwrap_or (position (λ row. nat_lt rank (T.rank_of row)) rows.now)
+        (length rows.now) }
 {
     first_above(rows, rank).unwrap_or(rows.len())
 }

@@ -118,8 +118,10 @@ fn key_in(way: Way, row: MapRow) -> Key
 
 /// The row of a bearer of a remote, if it is mapped over this PC5 channel.
 fn row_over_pc5(rows: &[MapRow], remote: Remote, bearer: u8, chan: Chan) -> Option<MapRow>
-    ensures found { IfSome result (λ row. MapsBearer rows.now remote bearer row × (row.pc5 ≡ chan)) }
-    ensures none { IfNone result ((row : MapRow) → MapsBearer rows.now remote bearer row → row.pc5 ≢ chan) }
+    ensures found { IfSome result
+        (λ row. MapsBearer rows.now remote bearer row × (row.pc5 ≡ chan)) }
+    ensures none { IfNone result
+        ((row : MapRow) → MapsBearer rows.now remote bearer row → row.pc5 ≢ chan) }
 {
     rows.iter().copied().find(|row| is_row_of(row, remote, bearer) && row.pc5.0 == chan.0)
 }
@@ -127,7 +129,8 @@ fn row_over_pc5(rows: &[MapRow], remote: Remote, bearer: u8, chan: Chan) -> Opti
 /// The row of a bearer of a remote, if it is mapped over this Uu channel.
 fn row_over_uu(rows: &[MapRow], remote: Remote, bearer: u8, chan: Chan) -> Option<MapRow>
     ensures found { IfSome result (λ row. MapsBearer rows.now remote bearer row × (row.uu ≡ chan)) }
-    ensures none { IfNone result ((row : MapRow) → MapsBearer rows.now remote bearer row → row.uu ≢ chan) }
+    ensures none { IfNone result
+        ((row : MapRow) → MapsBearer rows.now remote bearer row → row.uu ≢ chan) }
 {
     rows.iter()
         .copied()

@@ -2,7 +2,7 @@
 //! that a transmitter has to send again (clause 5.3.2).
 #![tactic(auto)]
 
-mod flags;
+mod ranges;
 mod spans;
 
-pub use spans::{PLACES, Spans, same_places_same_set};
+pub use spans::{Spans, same_places_same_set};

@@ -1,105 +1,114 @@
 // Sets of places.
-ghost use Rattle.std.specs.Prelude.{◌≡◌, ◌<◌, ◌≤◌, ◌-◌, IfOk, OnOk, OnErr, IfSome, IfNone, length};
+ghost use Rattle.std.specs.Prelude.{◌≡◌, ◌↔◌, ◌+◌, ◌-◌, ◌<◌, ◌≤◌, IsOkAnd, IfOk, OnOk, OnErr, IfSome, IfNone, IsTrue, length};
 ghost use Rattle.std.specs.Bool.{MatchBool};
-ghost use Rattle.byte_spans.specs.Spans.{Has, Lacks, HasAll, LacksAll, LacksOne, IsEmpty, Adds, Removes, IsOnly, IsFirstRun, IsFirstGap, IsEnd, SamePlacesSameSet};
+ghost use Rattle.std.specs.List.{remove_range, replace_range};
+ghost use Rattle.link_base.specs.declared.limits.TheConstants.{LONGEST_RLC_SDU};
+ghost use Rattle.byte_spans.specs.Spans.{HasAll, LacksOne, IsEmpty, Adds, Removes, HasOnly, IsFirstRun, IsFirstGap, IsEnd, SamePlacesSameSet, IsApart, SplitsRun, HasTwoRuns};
 
-use crate::flags::{end_below, first_at, set_all};
+use crate::ranges::{Range, cut, first_lacked, join, next_gap};
 use link_base::Memory;
+use smallvec::SmallVec;
 use std::alloc::Global;
 use std::marker::Model;
 
-/// How many places there are, one for each byte of the longest RLC SDU: 9,000 bytes of a PDCP SDU (TS 38.323 clause
-/// 4.3.1) behind a PDCP header of 3 (clause 6.2.2.3) and a SRAP header of 2 (TS 38.351 clause 6.2.2).
-pub const PLACES: u32 = 9_005;
-
-/// A set of places below [`PLACES`], counted from 0.
+/// A set of places below [`LONGEST_RLC_SDU`](link_base::LONGEST_RLC_SDU), counted from 0.
+///
+/// It keeps its maximal runs of places as ranges, the first of them with no memory beyond the set's own.
 #[derive(Debug, Drop)]
 pub struct Spans {
-    flags: Vec<bool>,
-    // One more than the greatest place.
-    end: u32,
+    ranges: SmallVec<Range, 1>,
 }
 
 impl Model for Spans {
-    ghost use Rattle.std.specs.Prelude.{◌≡◌, ◌≤◌, List, Bool, length};
-    ghost use Rattle.byte_spans.specs.declared.spans.TheConstants.{PLACES};
-    ghost use Rattle.byte_spans.specs.Spans.{IsEnd};
+    ghost use Rattle.std.specs.Prelude.{◌≤◌, List, Bool};
+    ghost use Rattle.byte_spans.specs.Ranges.{AreRanges, flags_of};
 
     ghost Value = { List Bool };
 
-    ghost view = { λ s. s.flags.items };
+    ghost view = { λ s. flags_of s.ranges.items };
 
-    ghost invariant = { λ s. (length s.flags.items ≡ PLACES) × (s.end ≤ PLACES) × IsEnd s.flags.items s.end };
+    ghost invariant = { λ s. AreRanges s.ranges.items × (1 ≤ s.ranges.capacity) };
 }
 
 impl Spans {
-    /// The empty set.
+    /// The empty set, with room for one run of places.
     pub fn new(alloc: Global) -> Result<Self, Memory>
-        ensures { IfOk result IsEmpty }
+        ensures { IsOkAnd result IsEmpty }
     {
-        let flags = vec![in alloc; false; PLACES as usize]?;
-        Ok(Spans { flags, end: 0 })
+        Ok(Spans {
+            ranges: SmallVec::new(alloc),
+        })
     }
 
     /// Adds the places from `from` up to but without `to`, and answers whether one of them was new.
     ///
-    /// After an `Err` the set is as it was.
+    /// It may want memory only where they become one run more. After an `Err` the set is as it was.
     pub fn add(&mut self, from: u32, to: u32) -> Result<bool, Memory>
         requires some { from < to }
-        requires within { to ≤ PLACES }
+        requires within { to ≤ LONGEST_RLC_SDU }
         ensures adds { OnOk result (Adds self.old self.new from to) }
-        ensures fresh { IfOk result (λ fresh. MatchBool fresh (LacksOne self.old from to) (HasAll self.old from to)) }
+        ensures fresh { IfOk result
+            (λ fresh. MatchBool fresh (LacksOne self.old from to) (HasAll self.old from to)) }
         ensures err { OnErr result (self.new ≡ self.old) }
+        ensures grows { OnErr result (IsApart self.old from to) }
     {
-        let fresh = !self.covers(from, to);
-        set_all(&mut self.flags, from as usize, to as usize, true);
-        self.end = self.end.max(to);
-        Ok(fresh)
+        if self.covers(from, to) {
+            return Ok(false);
+        }
+        let added = Range {
+            start: from,
+            end: to,
+        };
+        let joined = join(self.ranges.as_slice(), added);
+        replace(&mut self.ranges, joined.first, joined.stop, &[joined.range])?;
+        Ok(true)
     }
 
     /// Makes the set the places from `from` up to but without `to`. It takes no memory.
     pub fn only(&mut self, from: u32, to: u32)
         requires some { from < to }
-        requires within { to ≤ PLACES }
-        ensures { IsOnly self.new from to }
+        requires within { to ≤ LONGEST_RLC_SDU }
+        ensures { HasOnly self.new from to }
     {
-        set_all(&mut self.flags, 0, self.end as usize, false);
-        set_all(&mut self.flags, from as usize, to as usize, true);
-        self.end = to;
+        self.ranges.clear();
+        self.ranges.push_reserved(Range {
+            start: from,
+            end: to,
+        });
     }
 
     /// Removes the places from `from` up to but without `to`.
     ///
-    /// After an `Err` the set is as it was.
+    /// It may want memory only where that makes two runs of one. After an `Err` the set is as it was.
     pub fn remove(&mut self, from: u32, to: u32) -> Result<(), Memory>
         requires some { from < to }
-        requires within { to ≤ PLACES }
+        requires within { to ≤ LONGEST_RLC_SDU }
         ensures removes { OnOk result (Removes self.old self.new from to) }
         ensures err { OnErr result (self.new ≡ self.old) }
+        ensures grows { OnErr result (SplitsRun self.old from to) }
     {
-        set_all(&mut self.flags, from as usize, to as usize, false);
-        if self.end <= to {
-            self.end = end_below(&self.flags, self.end as usize) as u32;
-        }
+        let cut = cut(self.ranges.as_slice(), from, to);
+        let parts = [cut.front, cut.back];
+        let kept = &parts[usize::from(cut.front.is_empty())..2 - usize::from(cut.back.is_empty())];
+        replace(&mut self.ranges, cut.first, cut.stop, kept)?;
         Ok(())
     }
 
-    /// An equal set in memory of its own.
+    /// An equal set, with room for one run of places at least. It may want memory only for more than one.
     pub fn copy(&self) -> Result<Self, Memory>
-        ensures { IfOk result (λ copy. copy ≡ self.now) }
+        ensures same { IfOk result (λ copy. copy ≡ self.now) }
+        ensures grows { OnErr result (HasTwoRuns self.now) }
     {
-        let flags = self.flags.clone()?;
-        Ok(Spans {
-            flags,
-            end: self.end,
-        })
+        let mut ranges = SmallVec::new(*self.ranges.allocator());
+        ranges.extend_from_slice(self.ranges.as_slice())?;
+        Ok(Spans { ranges })
     }
 
     /// Whether the set has each place from `from` up to but without `to`.
     pub fn covers(&self, from: u32, to: u32) -> bool
         ensures { MatchBool result (HasAll self.now from to) (LacksOne self.now from to) }
     {
-        self.first_lacked(from, to) >= to
+        to <= from || to <= first_lacked(self.ranges.as_slice(), from).0
     }
 
     /// The first maximal run of places that the set lacks from `from` up to but without `until`, as its first place
@@ -108,11 +117,7 @@ impl Spans {
         ensures gap { IfSome result (λ gap. IsFirstGap self.now from until gap.0 gap.1) }
         ensures none { IfNone result (HasAll self.now from until) }
     {
-        let start = self.first_lacked(from, until);
-        if start >= until {
-            return None;
-        }
-        Some((start, self.first_held(start, until)))
+        next_gap(self.ranges.as_slice(), from, until)
     }
 
     /// The first maximal run of places, as its first place and the place behind its last. None where the set is
@@ -121,48 +126,76 @@ impl Spans {
         ensures run { IfSome result (λ run. IsFirstRun self.now run.0 run.1) }
         ensures none { IfNone result (IsEmpty self.now) }
     {
-        if self.end == 0 {
-            return None;
-        }
-        let from = self.first_held(0, self.end);
-        Some((from, self.first_lacked(from, self.end)))
+        let first = self.ranges.as_slice().first()?;
+        Some((first.start, first.end))
     }
 
     /// One more than the greatest place, or 0 where the set is empty.
     pub fn end(&self) -> u32
         ensures { IsEnd self.now result }
     {
-        self.end
+        match self.ranges.as_slice().last() {
+            Some(last) => last.end,
+            None => 0,
+        }
     }
 
-    // The first place from `from` on that the set has, or `until` where it has none below that.
-    fn first_held(&self, from: u32, until: u32) -> u32
-        requires { from ≤ until }
-        ensures after { from ≤ result }
-        ensures within { result ≤ until }
-        ensures before { LacksAll self.now from result }
-        ensures found { result < until → Has self.now result }
+    /// Whether the set has no place.
+    pub fn is_empty(&self) -> bool
+        ensures { IsTrue result ↔ IsEmpty self.now }
     {
-        let end = self.end.min(until);
-        if from >= end {
-            return until;
-        }
-        first_at(&self.flags, from as usize, end as usize, true) as u32
+        self.ranges.is_empty()
     }
+}
 
-    // The first place from `from` on that the set lacks, or one from `until` on where it lacks none below that.
-    fn first_lacked(&self, from: u32, until: u32) -> u32
-        ensures after { from ≤ result }
-        ensures within { from ≤ until → result ≤ until }
-        ensures before { HasAll self.now from result }
-        ensures found { result < until → Lacks self.now result }
-    {
-        let end = self.end.min(until);
-        if from >= end {
-            return from;
-        }
-        first_at(&self.flags, from as usize, end as usize, false) as u32
+// Writes ranges over as many others, from the index `at` on.
+fn put(ranges: &mut SmallVec<Range, 1>, at: usize, with: &[Range])
+    requires { at + length with.now ≤ length ranges.old.items }
+    ensures items { ranges.new.items
+        ≡ replace_range ranges.old.items at (at + length with.now) with.now }
+    ensures room { ranges.new.capacity ≡ ranges.old.capacity }
+{
+    ranges.as_mut_slice()[at..at + with.len()].copy_from_slice(with);
+}
+
+// Takes out the ranges from `first` up to but without `stop`.
+fn take_out(ranges: &mut SmallVec<Range, 1>, first: usize, stop: usize)
+    requires order { first ≤ stop }
+    requires within { stop ≤ length ranges.old.items }
+    ensures items { ranges.new.items ≡ remove_range ranges.old.items first stop }
+    ensures room { ranges.new.capacity ≡ ranges.old.capacity }
+{
+    if first < stop {
+        drop(ranges.drain(first..stop));
     }
+}
+
+// Puts ranges in the place of those from `first` up to but without `stop`: no more than these, or one more.
+fn replace(
+    ranges: &mut SmallVec<Range, 1>,
+    first: usize,
+    stop: usize,
+    with: &[Range],
+) -> Result<(), Memory>
+    requires order { first ≤ stop }
+    requires within { stop ≤ length ranges.old.items }
+    requires few { length with.now ≤ stop - first + 1 }
+    ensures ok { OnOk result (ranges.new.items
+        ≡ replace_range ranges.old.items first stop with.now) }
+    ensures room { ranges.old.capacity ≤ ranges.new.capacity }
+    ensures err { OnErr result (ranges.new ≡ ranges.old) }
+    ensures grows { OnErr result (stop - first < length with.now) }
+    ensures full { OnErr result (ranges.old.capacity ≤ length ranges.old.items) }
+{
+    if stop - first < with.len() {
+        let last = with.len() - 1;
+        ranges.insert(stop, with[last])?;
+        put(ranges, first, &with[..last]);
+    } else {
+        put(ranges, first, with);
+        take_out(ranges, first + with.len(), stop);
+    }
+    Ok(())
 }
 
 /// A law: two sets with the same places are equal.

@@ -1,5 +1,5 @@
 -- What callers need to know of a chain.
-use Rattle.std.proofs.Common.{◌≡◌, ◌≢◌, ℕ, ◌+◌, ◌-◌, ◌%◌, ◌<◌, ◌≤◌, Bool, true, false, not, nat_lt, nat_le, eqb, cond, List, [], ◌∷◌, length, get_or, Option, Some, None, refl, sym, ◌∙◌, ap, subst, arith, inl, inr}
+use Rattle.std.proofs.Common.{◌≡◌, ◌≢◌, ℕ, ◌+◌, ◌-◌, ◌%◌, ◌<◌, ◌≤◌, Bool, true, false, not, nat_lt, eqb, cond, List, [], ◌∷◌, length, get_or, Option, Some, None, refl, sym, ◌∙◌, ap, subst, arith, inl, inr}
 use Rattle.std.proofs.lemmas.Bool.{cases_lt, false≢true}
 use Rattle.std.proofs.lemmas.Bool.Decides.{nat_tests}
 use Rattle.std.proofs.lemmas.Option.{none-some}
@@ -7,15 +7,15 @@ use Rattle.link_base.specs.declared.names.Key.{Key}
 use Rattle.link_base.specs.declared.names.SnSize.{SnSize}
 use Rattle.link_base.specs.declared.names.SnSize.TheVariants.{S12, S18}
 use Rattle.link_base.specs.SequenceNumbers.{Near, window}
-use Rattle.rlc_pdu.specs.Amd.{Amd, IsAmd, Fits as AmdFits}
+use Rattle.rlc_pdu.specs.Amd.{Amd, IsAmd, AmdFits}
 use Rattle.rlc_pdu.proofs.Spelling.{spells, reads_back}
 use Rattle.rlc_status.specs.declared.status.Status.{Status}
-use Rattle.rlc_status.specs.Format.{IsStatus, StatusFits, bytes_of as status_bytes}
+use Rattle.rlc_status.specs.Format.{IsStatus, StatusFits, status_bytes}
 use Rattle.rlc_status.proofs.Spelling.{plain, is_free}
 use Rattle.rlc_status.proofs.Unique.{one_reading}
 use Rattle.pdcp_pdu.specs.Pdcp.{Sdu, IsPdcp, IsBody}
 use Rattle.rlc_model.specs.Heard.{Data}
-use Rattle.rlc_model.specs.Air.{IsFresh, IsFreshStatus}
+use Rattle.rlc_model.specs.Air.{IsFresh}
 use Rattle.rlc_model.specs.Tx.{Tx, tx_next, tx_next_ack, room}
 use Rattle.rlc_model.specs.Rx.{Rx, rx_next, Hears}
 use Rattle.rlc_model.specs.Retransmission.{HearsStatus}
@@ -27,6 +27,7 @@ use Rattle.rlc_law.specs.Hop.Event.{Deliver, DeliverStatus}
 use Rattle.rlc_law.proofs.Lists.{contains_here}
 use Rattle.rlc_law.proofs.Base.{at_rx_next, below_rx_next, below_next_ack, next_ack_le}
 use Rattle.rlc_law.proofs.Runs.{reaches_more}
+use Rattle.rlc_law.proofs.Fresh.{passes_fresh}
 use Rattle.rlc_law.proofs.Inductive.{reaches_inv}
 use Rattle.rlc_law.proofs.Bounded.{numbers_bounded}
 use Rattle.rlc_law.proofs.Safety.{sends_pieces, completes_as_given}
@@ -36,7 +37,7 @@ use Rattle.chain_model.specs.Tables.{direct_size, has_bearer}
 use Rattle.rlc_model.specs.declared.hop.Pdu.{Pdu}
 use Rattle.rlc_model.specs.declared.hop.AirFault.{AirFault}
 use Rattle.rlc_model.specs.declared.hop.AirFault.TheVariants as fault
-use Rattle.rlc_model.specs.Hop.{is_stale, air_fault}
+use Rattle.rlc_model.specs.Hop.{air_fault}
 use Rattle.chain_model.specs.Chain.{Chain, confirmed, pdu_of, stored_at}
 use Rattle.chain_model.specs.Steps.{IsKey, pdcp_pdu, submit_refusal, air_refusal, unheard}
 use Rattle.chain_law.specs.Fits.{Fits, FitsHop, IsSent, IsSentData, IsSentReport}
@@ -101,44 +102,21 @@ heard_if None is = refl
 heard_if (Some fault.Gone) is = absurd (none-some Gone (sym is))
 heard_if (Some (fault.Stale number next)) is = absurd (none-some (Stale number next) (sym is))
 
--- a PDU that a side would hear isn't stale there
-is_fresh : (size : SnSize) (pdu : Pdu) (next : ℕ) → air_fault size pdu (Some 0) next ≡ None → is_stale size pdu next ≡ false
-is_fresh size pdu next none = of (not (eqb 0 pdu.epoch)) (is_stale size pdu next) none
-  where
-    of : (gone stale : Bool) → cond gone (Some fault.Gone) (cond stale (Some (fault.Stale pdu.number next)) None) ≡ None → stale ≡ false
-    of true stale is = absurd (none-some fault.Gone (sym is))
-    of false true is = absurd (none-some (fault.Stale pdu.number next) (sym is))
-    of false false is = refl
-
 -- a data PDU that isn't refused is fresh at the receiver
-pub fresh_data : (c : Chain) (pdu : Pdu) → pdu.status ≡ false → air_refusal c pdu ≡ None → IsFresh c.rx.size pdu.number (rx_next c.rx)
-fresh_data c pdu plain_data none = go (pdu.number + window c.rx.size) (rx_next c.rx) (of pdu.status plain_data (is_fresh c.rx.size pdu (rx_next c.rx) (at pdu.status plain_data (heard_if _ none))))
+pub fresh_data : (c : Chain) (pdu : Pdu) → pdu.status ≡ false → air_refusal c pdu ≡ None → IsFresh c.rx.size false pdu.number (rx_next c.rx)
+fresh_data c pdu plain_data none = subst (λ (b : Bool). IsFresh c.rx.size b pdu.number (rx_next c.rx)) plain_data ((passes_fresh c.rx.size pdu (Some 0) (rx_next c.rx)).0 (at pdu.status plain_data (heard_if _ none))).1
   where
     at : (b : Bool) → b ≡ false → cond b (air_fault c.tx.size pdu (Some 0) (tx_next_ack c.tx)) (air_fault c.rx.size pdu (Some 0) (rx_next c.rx)) ≡ None → air_fault c.rx.size pdu (Some 0) (rx_next c.rx) ≡ None
     at false is x = x
     at true is x = absurd (false≢true (sym is))
 
-    of : (b : Bool) → b ≡ false → cond b (nat_le (pdu.number + window c.rx.size) (rx_next c.rx)) (nat_lt (pdu.number + window c.rx.size) (rx_next c.rx)) ≡ false → nat_lt (pdu.number + window c.rx.size) (rx_next c.rx) ≡ false
-    of false is x = x
-    of true is x = absurd (false≢true (sym is))
-
-    go : (m n : ℕ) → nat_lt m n ≡ false → n ≤ m
-    go m n e = grind (arith, nat_tests)
-
 -- a STATUS that isn't refused is fresh at the transmitter
-pub fresh_report : (c : Chain) (pdu : Pdu) → pdu.status ≡ true → air_refusal c pdu ≡ None → IsFreshStatus c.tx.size pdu.number (tx_next_ack c.tx)
-fresh_report c pdu report none = go (pdu.number + window c.tx.size) (tx_next_ack c.tx) (of pdu.status report (is_fresh c.tx.size pdu (tx_next_ack c.tx) (at pdu.status report (heard_if _ none))))
+pub fresh_report : (c : Chain) (pdu : Pdu) → pdu.status ≡ true → air_refusal c pdu ≡ None → IsFresh c.tx.size true pdu.number (tx_next_ack c.tx)
+fresh_report c pdu report none = subst (λ (b : Bool). IsFresh c.tx.size b pdu.number (tx_next_ack c.tx)) report ((passes_fresh c.tx.size pdu (Some 0) (tx_next_ack c.tx)).0 (at pdu.status report (heard_if _ none))).1
   where
     at : (b : Bool) → b ≡ true → cond b (air_fault c.tx.size pdu (Some 0) (tx_next_ack c.tx)) (air_fault c.rx.size pdu (Some 0) (rx_next c.rx)) ≡ None → air_fault c.tx.size pdu (Some 0) (tx_next_ack c.tx) ≡ None
     at true is x = x
     at false is x = absurd (false≢true is)
-
-    of : (b : Bool) → b ≡ true → cond b (nat_le (pdu.number + window c.tx.size) (tx_next_ack c.tx)) (nat_lt (pdu.number + window c.tx.size) (tx_next_ack c.tx)) ≡ false → nat_le (pdu.number + window c.tx.size) (tx_next_ack c.tx) ≡ false
-    of true is x = x
-    of false is x = absurd (false≢true is)
-
-    go : (m n : ℕ) → nat_le m n ≡ false → n < m
-    go m n e = grind (arith, nat_tests)
 
 -- the hop once a data PDU was delivered
 abbrev pub hop_heard : Hop → Data → Heard → Rx → Hop
@@ -201,8 +179,8 @@ module _ (c : Chain) (hop : Hop) (f : FitsHop c hop) where
       (reads_back (direct_size c.table) s.made.view fits).2 v (subst (IsAmd (direct_size c.table) v) s.bytes (subst (λ (z : SnSize). IsAmd z v pdu.bytes) heard_size is))
 
   -- where it isn't stale it is fresh in the hop
-  pub fresh : (pdu : Pdu) (s : IsSentData c.table hop.pdus pdu) → air_refusal c pdu ≡ None → IsFresh hop.rx.size s.made.number (rx_next hop.rx)
-  fresh pdu s none = subst (λ (r : Rx). IsFresh r.size s.made.number (rx_next r)) (sym f.rx) (subst (λ (n : ℕ). IsFresh c.rx.size n (rx_next c.rx)) s.number (fresh_data c pdu s.is_data none))
+  pub fresh : (pdu : Pdu) (s : IsSentData c.table hop.pdus pdu) → air_refusal c pdu ≡ None → IsFresh hop.rx.size false s.made.number (rx_next hop.rx)
+  fresh pdu s none = subst (λ (r : Rx). IsFresh r.size false s.made.number (rx_next r)) (sym f.rx) (subst (λ (n : ℕ). IsFresh c.rx.size false n (rx_next c.rx)) s.number (fresh_data c pdu s.is_data none))
 
   -- hearing it is an event of the hop
   pub hears_hop : (pdu : Pdu) (s : IsSentData c.table hop.pdus pdu) (v : Amd) (answer : Heard) (rx : Rx) → IsAmd c.rx.size v pdu.bytes → Hears c.rx v answer rx → Hears hop.rx s.made.view answer rx
@@ -246,9 +224,9 @@ module _ (c : Chain) (hop : Hop) (f : FitsHop c hop) where
   tells_one pdu s status is = one_reading c.tx.size status s.made.status pdu.bytes is (tells_made pdu s)
 
   -- where it isn't stale it is fresh in the hop
-  pub fresh_ack : (pdu : Pdu) (s : IsSentReport c.table hop.statuses pdu) → air_refusal c pdu ≡ None → IsFreshStatus hop.tx.size s.made.ack (tx_next_ack hop.tx)
+  pub fresh_ack : (pdu : Pdu) (s : IsSentReport c.table hop.statuses pdu) → air_refusal c pdu ≡ None → IsFresh hop.tx.size true s.made.ack (tx_next_ack hop.tx)
   fresh_ack pdu s none =
-      subst (λ (t : Tx). IsFreshStatus t.size s.made.ack (tx_next_ack t)) (sym f.tx) (subst (λ (n : ℕ). IsFreshStatus c.tx.size n (tx_next_ack c.tx)) s.number (fresh_report c pdu s.is_report none))
+      subst (λ (t : Tx). IsFresh t.size true s.made.ack (tx_next_ack t)) (sym f.tx) (subst (λ (n : ℕ). IsFresh c.tx.size true n (tx_next_ack c.tx)) s.number (fresh_report c pdu s.is_report none))
 
   -- hearing it is an event of the hop
   pub tells_hop : (pdu : Pdu) (s : IsSentReport c.table hop.statuses pdu) (status : Status) (answer : StatusHeard) (tx : Tx) → IsStatus c.tx.size status pdu.bytes → HearsStatus c.tx status answer tx → HearsStatus hop.tx s.made.status answer tx

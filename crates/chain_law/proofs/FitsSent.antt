@@ -7,14 +7,14 @@ use Rattle.link_base.specs.declared.names.SnSize.{SnSize}
 use Rattle.link_base.specs.declared.names.Way.{Way}
 use Rattle.link_base.specs.declared.names.Way.TheVariants.{Ul, Dl}
 use Rattle.link_base.specs.declared.names.PortName.{PortName}
-use Rattle.rlc_pdu.specs.Amd.{Amd, bytes_of}
+use Rattle.rlc_pdu.specs.Amd.{Amd, amd_bytes}
 use Rattle.rlc_status.specs.declared.status.Status.{Status}
-use Rattle.rlc_status.specs.Format.{bytes_of as status_bytes}
+use Rattle.rlc_status.specs.Format.{status_bytes}
 use Rattle.rlc_model.specs.declared.transmitter.TxGrant.TheVariants as grant
 use Rattle.rlc_model.specs.Tx.{Tx, tx_next_ack, Sends}
 use Rattle.rlc_model.specs.Rx.{Rx, got}
-use Rattle.rlc_model.specs.Made.{Reports}
-use Rattle.rlc_law.specs.Hop.{Hop, sends, reports}
+use Rattle.rlc_model.specs.Made.{WritesStatus}
+use Rattle.rlc_law.specs.Hop.{Hop, sends, makes_status}
 use Rattle.rlc_law.specs.Hop.Event.{Grant, GrantStatus}
 use Rattle.rlc_law.specs.Transmitter.{grants as call_grants}
 use Rattle.rlc_law.proofs.Lists.{contains_here, contains_later}
@@ -53,7 +53,7 @@ sent_more table hop tx number v pdu (inl s) = inl (more_data table hop.pdus (rec
 sent_more table hop tx number v pdu (inr s) = inr s
 
 -- the data PDU of a grant is one that the hop's transmitter has made
-entry_sent : (c : Chain) (hop : Hop) (port : PortName) (number : ℕ) (bytes : List ℕ) (v : Amd) → c.tx.size ≡ direct_size c.table → has_port c.table port ≡ true → bytes ≡ bytes_of c.tx.size v
+entry_sent : (c : Chain) (hop : Hop) (port : PortName) (number : ℕ) (bytes : List ℕ) (v : Amd) → c.tx.size ≡ direct_size c.table → has_port c.table port ≡ true → bytes ≡ amd_bytes c.tx.size v
     → IsSentData c.table (record { number = number; view = v } ∷ hop.pdus) (entry_of port Ul false number bytes)
 entry_sent c hop port number bytes v size there spelt =
     let key = port_key c.table port there in
@@ -61,7 +61,7 @@ entry_sent c hop port number bytes v size there spelt =
       made = record { number = number; view = v };
       among = contains_here (record { number = number; view = v }) hop.pdus;
       number = refl;
-      bytes = spelt ∙ ap (λ (z : SnSize). bytes_of z v) size;
+      bytes = spelt ∙ ap (λ (z : SnSize). amd_bytes z v) size;
       is_data = refl;
       key = key.0;
       its_key = key.1;
@@ -70,7 +70,7 @@ entry_sent c hop port number bytes v size there spelt =
     }
 
 -- a data PDU is sent
-pub sent_fits : (c : Chain) (hop : Hop) (port : PortName) (n number : ℕ) (bytes : List ℕ) (v : Amd) (tx : Tx) → FitsHop c hop → has_port c.table port ≡ true → bytes ≡ bytes_of c.tx.size v → Sends c.tx n number v tx
+pub sent_fits : (c : Chain) (hop : Hop) (port : PortName) (n number : ℕ) (bytes : List ℕ) (v : Amd) (tx : Tx) → FitsHop c hop → has_port c.table port ≡ true → bytes ≡ amd_bytes c.tx.size v → Sends c.tx n number v tx
     → FitsHop (record c { tx = tx; air = c.air ++ Some (entry_of port Ul false number bytes) ∷ [] }) (hop_sent hop tx number v)
 sent_fits c hop port n number bytes v tx f there spelt x =
     let own : Sends hop.tx n number v tx = subst (λ (t : Tx). Sends t n number v tx) (sym f.tx) x in
@@ -121,13 +121,13 @@ entry_reported c hop port ack status size there =
     }
 
 -- a STATUS PDU is sent
-pub reported_fits : (c : Chain) (hop : Hop) (port : PortName) (n ack : ℕ) (status : Status) (rx : Rx) → FitsHop c hop → has_port c.table port ≡ true → Reports c.rx n ack status rx
+pub reported_fits : (c : Chain) (hop : Hop) (port : PortName) (n ack : ℕ) (status : Status) (rx : Rx) → FitsHop c hop → has_port c.table port ≡ true → WritesStatus c.rx n ack status rx
     → FitsHop (record c { rx = rx; air = c.air ++ Some (entry_of port Dl true ack (status_bytes c.rx.size status)) ∷ [] }) (hop_reported hop rx ack status)
 reported_fits c hop port n ack status rx f there x =
-    let own : Reports hop.rx n ack status rx = subst (λ (r : Rx). Reports r n ack status rx) (sym f.rx) x in
+    let own : WritesStatus hop.rx n ack status rx = subst (λ (r : Rx). WritesStatus r n ack status rx) (sym f.rx) x in
     let entry : Pdu = entry_of port Dl true ack (status_bytes c.rx.size status) in
     record {
-      reaches = reaches_more hop (GrantStatus n) (hop_reported hop rx ack status) f.reaches (reports ack status rx own);
+      reaches = reaches_more hop (GrantStatus n) (hop_reported hop rx ack status) f.reaches (makes_status ack status rx own);
       tx = f.tx;
       rx = refl;
       size = f.size;

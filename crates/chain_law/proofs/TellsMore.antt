@@ -10,13 +10,13 @@ use Rattle.link_base.specs.declared.names.PortName.{PortName}
 use Rattle.link_base.specs.declared.names.PortName.TheVariants.{Direct}
 use Rattle.link_base.specs.declared.names.Way.{Way}
 use Rattle.link_base.specs.declared.names.Way.TheVariants.{Ul, Dl}
-use Rattle.rlc_pdu.specs.Amd.{Amd, IsAmd, bytes_of}
+use Rattle.rlc_pdu.specs.Amd.{Amd, IsAmd, amd_bytes}
 use Rattle.rlc_status.specs.declared.status.Status.{Status}
-use Rattle.rlc_status.specs.Format.{bytes_of as status_bytes}
+use Rattle.rlc_status.specs.Format.{status_bytes}
 use Rattle.rlc_model.specs.Heard.{Data}
 use Rattle.rlc_model.specs.Tx.{Tx, tx_next_ack, Sends}
 use Rattle.rlc_model.specs.Rx.{Rx, got}
-use Rattle.rlc_model.specs.Made.{Reports}
+use Rattle.rlc_model.specs.Made.{WritesStatus}
 use Rattle.rlc_law.specs.Hop.{Hop}
 use Rattle.rlc_law.proofs.Lists.{contains_here, contains_later, contains_cases}
 use Rattle.script_text.specs.declared.stage.ScriptStage.{ScriptStage}
@@ -78,7 +78,7 @@ module _ (h : List Entry) (old new : ScriptStage) (c : Chain) (hop : Hop) (t : T
   its_bearer port there = let k = port_key c.table port there in (k.0, k.1)
 
   -- a data PDU is sent
-  pub tells_sent : (port : PortName) (n number : ℕ) (bytes : List ℕ) (v : Amd) (tx : Tx) (events : List Event) (reply : Reply) → Stands old (Grant port Ul n) new → has_port c.table port ≡ true → bytes ≡ bytes_of c.tx.size v
+  pub tells_sent : (port : PortName) (n number : ℕ) (bytes : List ℕ) (v : Amd) (tx : Tx) (events : List Event) (reply : Reply) → Stands old (Grant port Ul n) new → has_port c.table port ≡ true → bytes ≡ amd_bytes c.tx.size v
       → reply ≡ Air (length c.air + 1) false number bytes → events ≡ [] → Sends c.tx n number v tx
       → Tells (entry (Grant port Ul n) events reply ∷ h) new (record c { tx = tx; air = c.air ++ Some (entry_of port Ul false number bytes) ∷ [] }) (hop_sent hop tx number v)
   tells_sent port n number bytes v tx events reply stands there spelt says none x =
@@ -91,7 +91,7 @@ module _ (h : List Entry) (old new : ScriptStage) (c : Chain) (hop : Hop) (t : T
 
   -- a STATUS PDU is sent
   pub tells_reported : (port : PortName) (n ack : ℕ) (status : Status) (rx : Rx) (events : List Event) (reply : Reply) → Stands old (Grant port Dl n) new → has_port c.table port ≡ true
-      → reply ≡ Air (length c.air + 1) true ack (status_bytes c.rx.size status) → events ≡ [] → Reports c.rx n ack status rx
+      → reply ≡ Air (length c.air + 1) true ack (status_bytes c.rx.size status) → events ≡ [] → WritesStatus c.rx n ack status rx
       → Tells (entry (Grant port Dl n) events reply ∷ h) new (record c { air = c.air ++ Some (entry_of port Dl true ack (status_bytes c.rx.size status)) ∷ []; rx = rx }) (hop_reported hop rx ack status)
   tells_reported port n ack status rx events reply stands there says none x =
       tells_still h old new c hop t (Grant port Dl n) events reply refl stands c.accepted [] c.tx (c.air ++ Some (entry_of port Dl true ack (status_bytes c.rx.size status)) ∷ []) rx (hop_reported hop rx ack status) (sym (append-nil _))

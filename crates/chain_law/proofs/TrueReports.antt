@@ -9,7 +9,7 @@ use Rattle.link_base.specs.declared.names.PortName.TheVariants.{Direct}
 use Rattle.link_base.specs.declared.names.Way.{Way}
 use Rattle.link_base.specs.declared.names.Way.TheVariants.{Ul, Dl}
 use Rattle.rlc_status.specs.declared.status.Status.{Status}
-use Rattle.rlc_status.specs.Format.{IsStatus, StatusFits, bytes_of as status_bytes}
+use Rattle.rlc_status.specs.Format.{IsStatus, StatusFits, status_bytes}
 use Rattle.rlc_status.specs.Says.{Names, SaysMissing}
 use Rattle.rlc_status.proofs.Spelling.{plain, is_free}
 use Rattle.rlc_model.specs.declared.receiver.Made.{Made}
@@ -18,7 +18,7 @@ use Rattle.rlc_model.specs.declared.transmitter.TxGrant.{TxGrant}
 use Rattle.rlc_model.specs.declared.transmitter.TxGrant.TheVariants as grant
 use Rattle.rlc_model.specs.Heard.{HeardAs}
 use Rattle.rlc_model.specs.Rx.{Rx, Done, got}
-use Rattle.rlc_model.specs.Made.{IsTrueOf, IsWithin, Makes, Reports as RxReports}
+use Rattle.rlc_model.specs.Made.{IsTrueOf, IsWithin, Makes, WritesStatus as RxReports}
 use Rattle.rlc_law.specs.Hop.{Hop, given_at}
 use Rattle.rlc_law.proofs.Base.{done_below}
 use Rattle.rlc_law.proofs.Inductive.{reaches_inv}

@@ -3,8 +3,8 @@ use Rattle.std.specs.Prelude.{◌≡◌, ◌⊎◌, ℕ, ◌+◌, ◌<◌, ◌�
 use Rattle.link_base.specs.declared.names.Key.{Key}
 use Rattle.link_base.specs.declared.names.PortName.TheVariants.{Direct}
 use Rattle.link_base.specs.declared.names.Way.TheVariants.{Dl}
-use Rattle.rlc_pdu.specs.Amd.{bytes_of}
-use Rattle.rlc_status.specs.Format.{bytes_of as status_bytes}
+use Rattle.rlc_pdu.specs.Amd.{amd_bytes}
+use Rattle.rlc_status.specs.Format.{status_bytes}
 use Rattle.pdcp_pdu.specs.Pdcp.{IsBody}
 use Rattle.rlc_model.specs.Heard.{Data}
 use Rattle.rlc_model.specs.Rx.{Rx, Done, got}
@@ -29,7 +29,7 @@ pub record IsSentData (table : BearerTable) (pdus : List Data) (pdu : Pdu) : Typ
   pub made : Data
   pub among : Contains pdus made
   pub number : pdu.number ≡ made.number
-  pub bytes : pdu.bytes ≡ bytes_of (direct_size table) made.view
+  pub bytes : pdu.bytes ≡ amd_bytes (direct_size table) made.view
   pub is_data : pdu.status ≡ false
   pub key : Key
   pub its_key : IsKey table key

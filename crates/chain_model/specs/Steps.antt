@@ -17,8 +17,8 @@ use Rattle.link_base.specs.SequenceNumbers.{Near}
 use Rattle.bearer_map.specs.Contents.{nothing}
 use Rattle.rlc_pdu.specs.Amd.{Amd, IsAmd}
 use Rattle.rlc_status.specs.declared.status.Status.{Status}
-use Rattle.rlc_status.specs.Format.{IsStatus, bytes_of as status_bytes}
-use Rattle.pdcp_pdu.specs.Pdcp.{IsPdcp, bytes_of as pdcp_bytes}
+use Rattle.rlc_status.specs.Format.{IsStatus, status_bytes}
+use Rattle.pdcp_pdu.specs.Pdcp.{IsPdcp, pdcp_bytes}
 use Rattle.pdcp_pdu.specs.Pdcp.Pdcp.{Sdu}
 use Rattle.rlc_model.specs.declared.receiver.Heard.{Heard}
 use Rattle.rlc_model.specs.declared.receiver.Heard.TheVariants as heard

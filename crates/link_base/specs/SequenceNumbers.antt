@@ -1,4 +1,4 @@
--- Sequence numbers on the air, and the numbers that they stand for (TS 38.322 clause 7.1, TS 38.323 clause 7.1).
+-- Sequence numbers on the air, and the numbers that they stand for (TS 38.322 clause 7.1, TS 38.323 clause 5.2.2.1).
 use Rattle.std.specs.Prelude.{◌≡◌, ℕ, ◌+◌, ◌%◌, ◌<◌, ◌≤◌}
 use Rattle.link_base.specs.declared.names.SnSize.{SnSize}
 use Rattle.link_base.specs.declared.names.SnSize.TheVariants.{S12, S18}
@@ -12,6 +12,11 @@ modulus S18 = 262144
 abbrev pub window : SnSize → ℕ
 window S12 = 2048
 window S18 = 131072
+
+-- how many SDUs a PDCP sender keeps at most that are not confirmed
+abbrev pub most_unconfirmed : SnSize → ℕ
+most_unconfirmed S12 = 2048
+most_unconfirmed S18 = 65536
 
 -- the number has this sequence number, and lies less than a window above the base or at most a window below it
 pub record Near (size : SnSize) (sn base number : ℕ) : Type 0 where

@@ -5,7 +5,7 @@ ghost use Rattle.link_base.specs.SequenceNumbers.{modulus, Near, OneIsNear};
 use crate::SnSize;
 
 /// The one number with this sequence number that lies near the base: at most half a cycle below it, and less than
-/// half a cycle above it (TS 38.322 clause 7.1, TS 38.323 clause 5.2.2).
+/// half a cycle above it (TS 38.322 clause 7.1, TS 38.323 clause 5.2.2.1).
 ///
 /// A base is at most 2^62. None where the number would be negative.
 pub fn near(sn: u32, base: u64, size: SnSize) -> Option<u64>
@@ -15,11 +15,8 @@ pub fn near(sn: u32, base: u64, size: SnSize) -> Option<u64>
     ensures none { IfNone result ((number : ℕ) → Near size sn base number → ⊥) }
 {
     let sn = u64::from(sn);
-    let cycle: u64 = match size {
-        SnSize::S12 => 4096,
-        SnSize::S18 => 262_144,
-    };
-    let half = cycle / 2;
+    let cycle = size.modulus();
+    let half = size.window();
     let same_cycle = base - base % cycle + sn;
     if same_cycle >= base + half {
         same_cycle.checked_sub(cycle)

@@ -1,4 +1,6 @@
 // Names of nodes, bearers, channels and ports, as scripts and traces use them.
+ghost use Rattle.std.specs.Prelude.{◌≡◌};
+ghost use Rattle.link_base.specs.SequenceNumbers.{modulus, window, most_unconfirmed};
 
 /// How many bits a sequence number has on the air (TS 38.322 clause 6.2.3.3, TS 38.323 clause 6.3.2).
 #[derive(Clone, Copy, Debug, PartialEq, Eq)]
@@ -7,6 +9,39 @@ pub enum SnSize {
     S12,
     /// 18 bits: numbers from 0 to 262,143.
     S18,
+}
+
+impl SnSize {
+    /// How many sequence numbers there are: 4,096 or 262,144.
+    pub fn modulus(self) -> u64
+        ensures { result ≡ modulus self }
+    {
+        match self {
+            SnSize::S12 => 4_096,
+            SnSize::S18 => 262_144,
+        }
+    }
+
+    /// Half as many, the size of a window of numbers (TS 38.322 clause 7.2, TS 38.323 clause 7.2): 2,048 or 131,072.
+    pub fn window(self) -> u64
+        ensures { result ≡ window self }
+    {
+        match self {
+            SnSize::S12 => 2_048,
+            SnSize::S18 => 131_072,
+        }
+    }
+
+    /// How many SDUs a PDCP sender keeps at most that are not confirmed: 2,048 or 65,536. The profile bounds them so that a
+    /// status report names each by a bit of a bitmap of at most 8,192 octets.
+    pub fn most_unconfirmed(self) -> u64
+        ensures { result ≡ most_unconfirmed self }
+    {
+        match self {
+            SnSize::S12 => 2_048,
+            SnSize::S18 => 65_536,
+        }
+    }
 }
 
 /// The direction of a PDU along a port.
@@ -61,7 +96,7 @@ pub struct Drb(pub u8);
 #[derive(Clone, Copy, Debug, PartialEq, Eq)]
 pub struct Chan(pub u8);
 
-/// The local identity by which a SRAP header names a remote (TS 38.351 clause 6.2), from 0 to 255.
+/// The local identity by which a SRAP header names a remote, its UE ID (TS 38.351 clause 6.3.2), from 0 to 255.
 #[derive(Clone, Copy, Debug, PartialEq, Eq)]
 pub struct LocalId(pub u8);
 

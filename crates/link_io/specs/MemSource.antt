@@ -9,8 +9,8 @@ pub record SourceState : Type 0 where
   pub calls : Calls
 
 -- a read fails where its call is to fail, and else gives the next bytes, as many as the buffer, the piece and the rest allow
-abbrev pub Reads : SourceState → SourceState → Result ℕ Failed → List ℕ → Type 0
-Reads old new (Err _) buf = (next_fails old.calls ≡ true) × (new ≡ record { left = old.left; calls = after_fault old.calls })
-Reads old new (Ok count) buf =
+abbrev pub ReadsPiece : SourceState → SourceState → Result ℕ Failed → List ℕ → Type 0
+ReadsPiece old new (Err _) buf = (next_fails old.calls ≡ true) × (new ≡ record { left = old.left; calls = after_fault old.calls })
+ReadsPiece old new (Ok count) buf =
     (next_fails old.calls ≡ false) × (count ≡ min (length old.left) (min (length buf) old.calls.piece))
     × (take count buf ≡ take count old.left) × (new ≡ record { left = drop count old.left; calls = after_call old.calls })

@@ -42,7 +42,8 @@ impl CallLog {
     /// Counts a call, and tells whether it fails.
     pub(crate) fn count(&mut self) -> bool
         ensures fails { result ≡ next_fails self.old }
-        ensures counted { self.new ≡ (if result then after_fault self.old else after_call self.old) }
+        ensures counted { self.new
+            ≡ (if result then after_fault self.old else after_call self.old) }
     {
         if self.made == u64::MAX {
             return false;

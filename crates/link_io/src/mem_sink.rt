@@ -1,7 +1,7 @@
 // A sink that stands in memory.
 ghost use Rattle.std.specs.Prelude.{◌≡◌, ◌<◌, length, nat_lt, Some, [], IfOk};
 ghost use Rattle.link_io.specs.Calls.{no_calls};
-ghost use Rattle.link_io.specs.MemSink.{Writes};
+ghost use Rattle.link_io.specs.MemSink.{WritesPiece};
 
 use crate::calls::CallLog;
 use crate::{Sink, WriteFault};
@@ -58,7 +58,7 @@ impl Sink for MemSink {
 
     fn write(&mut self, bytes: &[u8]) -> Result<usize, WriteFault>
         requires { 0 < length bytes.now }
-        ensures writes { Writes self.old self.new result bytes.now }
+        ensures writes { WritesPiece self.old self.new result bytes.now }
         ensures some { IfOk result (λ count. 0 < count) }
     {
         if self.log.count() {

@@ -1,7 +1,7 @@
 // A source that stands in memory.
 ghost use Rattle.std.specs.Prelude.{◌≡◌, ◌<◌, ◌≤◌, length, nat_lt, Some, [], IfOk};
 ghost use Rattle.link_io.specs.Calls.{no_calls};
-ghost use Rattle.link_io.specs.MemSource.{Reads};
+ghost use Rattle.link_io.specs.MemSource.{ReadsPiece};
 
 use crate::calls::CallLog;
 use crate::{Failed, Source};
@@ -54,7 +54,7 @@ impl Source for MemSource {
 
     fn read(&mut self, buf: &mut [u8]) -> Result<usize, Failed>
         requires { 0 < length buf.old }
-        ensures reads { Reads self.old self.new result buf.new }
+        ensures reads { ReadsPiece self.old self.new result buf.new }
         ensures none { IfOk result (λ count. count ≡ 0 → self.old.left ≡ []) }
     {
         if self.log.count() {

@@ -38,14 +38,16 @@ pub trait Sink {
 
     /// Writes the first of the bytes, at least one of them, and answers how many.
     ///
-    /// An `Err` writes nothing, and `Failed` comes only with a fault more than before.
+    /// An `Err` writes nothing, and `Failed` comes only with a fault more than before, unless the count stood at its
+    /// last value, 2^64 - 1.
     fn write(&mut self, bytes: &[u8]) -> Result<usize, WriteFault>
         requires { 0 < length bytes.now }
         ensures bound { IfOk result (λ k. (0 < k) × (k ≤ length bytes.now)) }
         ensures bytes { WriteAppends (written self.old) (written self.new) result bytes.now }
         ensures told { IsAsTold (written self.old) (written self.new) }
         ensures used { IsUsed faults can_fail self.old self.new }
-        ensures failed { IsErrOf result WriteFault.Failed → Rose (faults self.old) (faults self.new) }
+        ensures failed { IsErrOf result WriteFault.Failed
+            → Rose (faults self.old) (faults self.new) }
         ensures kept { OnOk result (faults self.new ≡ faults self.old) }
         ensures memory { IsErrOf result WriteFault.Memory → faults self.new ≡ faults self.old }
         ensures sure { can_fail self.old ≡ false → IsErrOf result WriteFault.Failed → ⊥ };

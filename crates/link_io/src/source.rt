@@ -27,7 +27,8 @@ pub trait Source {
 
     /// Reads the next bytes into the front of a buffer that has room, and answers how many: none only at the end.
     ///
-    /// `Failed` takes nothing, and comes only with a fault more than before.
+    /// `Failed` takes nothing, and comes only with a fault more than before, unless the count stood at its last value,
+    /// 2^64 - 1.
     fn read(&mut self, buf: &mut [u8]) -> Result<usize, Failed>
         requires { 0 < length buf.old }
         ensures bound { ReadsAtMost result buf.new }

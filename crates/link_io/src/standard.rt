@@ -39,7 +39,8 @@ impl<R: Read + Drop> Source for StdSource<R> {
     fn read(&mut self, buf: &mut [u8]) -> Result<usize, Failed>
         requires { 0 < length buf.old }
         ensures bound { ReadsAtMost result buf.new }
-        ensures reader { ReadConsumes (reader_left R.remaining self.old) (reader_left R.remaining self.new) result buf.new }
+        ensures reader { ReadConsumes (reader_left R.remaining self.old)
+            (reader_left R.remaining self.new) result buf.new }
         ensures later { reader_faults self.old ≤ reader_faults self.new }
         ensures failed { OnErr result (Rose (reader_faults self.old) (reader_faults self.new)) }
         ensures kept { OnOk result (reader_faults self.new ≡ reader_faults self.old) }
@@ -86,10 +87,15 @@ impl<W: Write + Drop> Sink for StdSink<W> {
     fn write(&mut self, bytes: &[u8]) -> Result<usize, WriteFault>
         requires { 0 < length bytes.now }
         ensures bound { IfOk result (λ k. (0 < k) × (k ≤ length bytes.now)) }
-        ensures writer { IfOk result (λ k. Appends (writer_holds W.contents self.old) (writer_holds W.contents self.new) (take k bytes.now)) }
-        ensures front { OnErr result (AppendsFront (writer_holds W.contents self.old) (writer_holds W.contents self.new) bytes.now) }
+        ensures writer { IfOk result
+            (λ k. Appends (writer_holds W.contents self.old) (writer_holds W.contents self.new)
+            (take k bytes.now)) }
+        ensures front { OnErr result
+            (AppendsFront (writer_holds W.contents self.old)
+            (writer_holds W.contents self.new) bytes.now) }
         ensures later { writer_faults self.old ≤ writer_faults self.new }
-        ensures failed { IsErrOf result WriteFault.Failed → Rose (writer_faults self.old) (writer_faults self.new) }
+        ensures failed { IsErrOf result WriteFault.Failed
+            → Rose (writer_faults self.old) (writer_faults self.new) }
         ensures kept { OnOk result (writer_faults self.new ≡ writer_faults self.old) }
         ensures no_memory { IsErrOf result WriteFault.Memory → ⊥ }
     {

@@ -2,6 +2,7 @@
 use Rattle.std.specs.Prelude.{◌≡◌, ℕ, ◌+◌, ◌*◌, ◌/◌, ◌%◌, ◌^◌, ◌<◌, ◌≤◌, Bool, not, ◌&&◌, ◌==◌, List, [], ◌∷◌, ◌++◌, length, slice_index, nat_lt, nat_le, Option, Some, None, if◌then◌else◌}
 use Rattle.link_base.specs.declared.names.SnSize.{SnSize}
 use Rattle.link_base.specs.declared.names.SnSize.TheVariants.{S12, S18}
+use Rattle.link_base.specs.declared.limits.TheConstants.{LONGEST_PDCP_SDU}
 use Rattle.link_base.specs.SequenceNumbers.{modulus}
 use Rattle.pdcp_pdu.specs.declared.pdu.PdcpView.{PdcpView}
 use Rattle.pdcp_pdu.specs.declared.pdu.PdcpView.TheVariants as views
@@ -13,13 +14,14 @@ pub data Pdcp : Type 0 where
   Sdu : (sn : ℕ) (body : List ℕ) → Pdcp
   Report : (fmc : ℕ) (map : List ℕ) → Pdcp
 
+-- the PDU that a view shows
 abbrev pub pdcp_of : PdcpView → Pdcp
 pdcp_of (views.Sdu sn body) = Sdu sn body.now
 pdcp_of (views.Report fmc map) = Report fmc map.now
 
 -- a body has 1 to 9,000 bytes
 abbrev pub IsBody : List ℕ → Type 0
-IsBody body = (1 ≤ length body) × (length body ≤ 9000)
+IsBody body = (1 ≤ length body) × (length body ≤ LONGEST_PDCP_SDU)
 
 -- the first octet of a data PDU has D/C in bit 7 as 1
 abbrev pub IsDataOctet : ℕ → Type 0
@@ -36,10 +38,14 @@ IsDataPdu S12 sn body (first ∷ low ∷ rest) = IsDataOctet first × (sn ≡ fi
 IsDataPdu S18 sn body (first ∷ middle ∷ low ∷ rest) = IsDataOctet first × (sn ≡ first % 4 * 65536 + middle * 256 + low) × (body ≡ rest) × IsBody rest
 IsDataPdu size sn body bytes = ⊥
 
+-- how many octets a status report has at most: as many as the longest PDCP SDU has bytes
+abbrev pub longest_report : ℕ
+longest_report = LONGEST_PDCP_SDU
+
 -- a status report: D/C is 0, FMC stands in four octets, and the bitmap follows, at most 9,000 octets in all; reserved
 -- bits are free
 abbrev pub IsStatusReport : ℕ → List ℕ → List ℕ → Type 0
-IsStatusReport fmc map (first ∷ a ∷ b ∷ c ∷ d ∷ rest) = IsReportOctet first × (fmc ≡ a * 16777216 + b * 65536 + c * 256 + d) × (map ≡ rest) × (5 + length rest ≤ 9000)
+IsStatusReport fmc map (first ∷ a ∷ b ∷ c ∷ d ∷ rest) = IsReportOctet first × (fmc ≡ a * 16777216 + b * 65536 + c * 256 + d) × (map ≡ rest) × (5 + length rest ≤ longest_report)
 IsStatusReport fmc map bytes = ⊥
 
 -- the octets spell the PDU
@@ -48,9 +54,9 @@ IsPdcp size (Sdu sn body) bytes = IsDataPdu size sn body bytes
 IsPdcp size (Report fmc map) bytes = IsStatusReport fmc map bytes
 
 -- what has a spelling
-abbrev pub Fits : SnSize → Pdcp → Type 0
-Fits size (Sdu sn body) = (sn < modulus size) × IsBody body
-Fits size (Report fmc map) = (fmc < 2 ^ 32) × (5 + length map ≤ 9000)
+abbrev pub PdcpFits : SnSize → Pdcp → Type 0
+PdcpFits size (Sdu sn body) = (sn < modulus size) × IsBody body
+PdcpFits size (Report fmc map) = (fmc < 2 ^ 32) × (5 + length map ≤ longest_report)
 
 -- the header of a data PDU, with reserved bits 0
 abbrev pub data_header : SnSize → ℕ → List ℕ
@@ -62,9 +68,9 @@ abbrev pub report_header : ℕ → List ℕ
 report_header fmc = 0 ∷ (fmc / 16777216) ∷ (fmc / 65536 % 256) ∷ (fmc / 256 % 256) ∷ (fmc % 256) ∷ []
 
 -- the one spelling with reserved bits 0
-abbrev pub bytes_of : SnSize → Pdcp → List ℕ
-bytes_of size (Sdu sn body) = data_header size sn ++ body
-bytes_of size (Report fmc map) = report_header fmc ++ map
+abbrev pub pdcp_bytes : SnSize → Pdcp → List ℕ
+pdcp_bytes size (Sdu sn body) = data_header size sn ++ body
+pdcp_bytes size (Report fmc map) = report_header fmc ++ map
 
 -- how many bits of the SN the first octet has
 abbrev pub sn_bits_in_first : SnSize → ℕ
@@ -72,9 +78,9 @@ sn_bits_in_first S12 = 4
 sn_bits_in_first S18 = 2
 
 -- the reserved bits of the first octet are 0: bits 6 to 4 or 6 to 2 of a data PDU, and bits 3 to 0 of a status report
-abbrev pub HasNoReservedBits : SnSize → Pdcp → List ℕ → Type 0
-HasNoReservedBits size (Sdu sn body) bytes = slice_index bytes 0 % 128 / 2 ^ sn_bits_in_first size ≡ 0
-HasNoReservedBits size (Report fmc map) bytes = slice_index bytes 0 % 16 ≡ 0
+abbrev pub IsPlainPdcp : SnSize → Pdcp → List ℕ → Type 0
+IsPlainPdcp size (Sdu sn body) bytes = slice_index bytes 0 % 128 / 2 ^ sn_bits_in_first size ≡ 0
+IsPlainPdcp size (Report fmc map) bytes = slice_index bytes 0 % 16 ≡ 0
 
 -- there is no octet
 abbrev pub has_no_octet : List ℕ → Bool
@@ -91,7 +97,7 @@ has_reserved_type bytes = not (is_data bytes) && not (slice_index bytes 0 / 16 %
 -- a body is empty, or too long
 abbrev pub IsBodyFault : List ℕ → PdcpFault → Type 0
 IsBodyFault body Empty = length body ≡ 0
-IsBodyFault body Long = 9000 < length body
+IsBodyFault body Long = LONGEST_PDCP_SDU < length body
 IsBodyFault body fault = ⊥
 
 -- how many octets the header of a data PDU has
@@ -100,34 +106,35 @@ data_header_len S12 = 2
 data_header_len S18 = 3
 
 -- how many octets stand before a body or a bitmap
-abbrev pub header_len : SnSize → List ℕ → ℕ
-header_len size bytes = if is_data bytes then data_header_len size else 5
+abbrev pub pdcp_header_len : SnSize → List ℕ → ℕ
+pdcp_header_len size bytes = if is_data bytes then data_header_len size else 5
 
 -- how many octets a PDU has at most
 abbrev pub longest : SnSize → List ℕ → ℕ
-longest size bytes = if is_data bytes then data_header_len size + 9000 else 9000
+longest size bytes = if is_data bytes then data_header_len size + LONGEST_PDCP_SDU else longest_report
 
 -- the header or FMC isn't whole
-abbrev pub is_cut : SnSize → List ℕ → Bool
-is_cut size bytes = nat_lt (length bytes) (header_len size bytes)
+abbrev pub pdcp_is_cut : SnSize → List ℕ → Bool
+pdcp_is_cut size bytes = nat_lt (length bytes) (pdcp_header_len size bytes)
 
 -- it is a data PDU, and nothing follows its header
-abbrev pub has_no_body : SnSize → List ℕ → Bool
-has_no_body size bytes = is_data bytes && (length bytes == header_len size bytes)
+abbrev pub pdcp_has_no_body : SnSize → List ℕ → Bool
+pdcp_has_no_body size bytes = is_data bytes && (length bytes == pdcp_header_len size bytes)
 
 -- there are too many octets
 abbrev pub is_long : SnSize → List ℕ → Bool
 is_long size bytes = nat_lt (longest size bytes) (length bytes)
 
 -- the first of the faults that holds, in this order
-abbrev pub first_fault : SnSize → List ℕ → Option PdcpFault
-first_fault size bytes =
+abbrev pub first_pdcp_fault : SnSize → List ℕ → Option PdcpFault
+first_pdcp_fault size bytes =
     if has_no_octet bytes then Some Short
     else if has_reserved_type bytes then Some ReservedType
-    else if is_cut size bytes then Some Short
-    else if has_no_body size bytes then Some Empty
+    else if pdcp_is_cut size bytes then Some Short
+    else if pdcp_has_no_body size bytes then Some Empty
     else if is_long size bytes then Some Long
     else None
 
-abbrev pub IsFault : SnSize → List ℕ → PdcpFault → Type 0
-IsFault size bytes fault = first_fault size bytes ≡ Some fault
+-- this is the first fault of the octets
+abbrev pub IsPdcpFault : SnSize → List ℕ → PdcpFault → Type 0
+IsPdcpFault size bytes fault = first_pdcp_fault size bytes ≡ Some fault

@@ -1,9 +1,9 @@
 // From octets to fields.
 ghost use Rattle.std.specs.Prelude.{◌≡◌, ◌∷◌, ◌<◌, ◌≤◌, List, ℕ, IfOk, IfErr, IsOkAnd};
-ghost use Rattle.pdcp_pdu.specs.Pdcp.{Pdcp, Sdu, pdcp_of, IsPdcp, Fits, IsBody, IsBodyFault, IsFault};
+ghost use Rattle.pdcp_pdu.specs.Pdcp.{Pdcp, Sdu, pdcp_of, IsPdcp, PdcpFits, IsBody, IsBodyFault, IsPdcpFault};
 
 use crate::{PdcpFault, PdcpView};
-use link_base::SnSize;
+use link_base::{LONGEST_PDCP_SDU, SnSize};
 
 /// The fields of a PDCP PDU whose sequence numbers have this size (TS 38.323 clause 6.2). Reserved bits may have any
 /// value.
@@ -15,10 +15,10 @@ pub fn decode_pdcp(size: SnSize, bytes: &[u8]) -> Result<PdcpView<'_>, PdcpFault
     ensures read { IfOk result (λ v. IsPdcp size (pdcp_of v) bytes.now) }
     ensures spelt { (v : Pdcp) → IsPdcp size v bytes.now → IsOkAnd result (λ w. pdcp_of w ≡ v) }
     // What is read can be encoded.
-    ensures fits { IfOk result (λ v. Fits size (pdcp_of v)) }
+    ensures fits { IfOk result (λ v. PdcpFits size (pdcp_of v)) }
     // A fault that comes is the first that holds, and the first that holds comes.
-    ensures fault { IfErr result (IsFault size bytes.now) }
-    ensures refused { (fault : PdcpFault) → IsFault size bytes.now fault → result ≡ Err fault }
+    ensures fault { IfErr result (IsPdcpFault size bytes.now) }
+    ensures refused { (fault : PdcpFault) → IsPdcpFault size bytes.now fault → result ≡ Err fault }
 {
     match (size, bytes) {
         (_, []) => Err(PdcpFault::Short),
@@ -42,7 +42,7 @@ fn sdu(sn: u32, body: &[u8]) -> Result<PdcpView<'_>, PdcpFault>
     if body.is_empty() {
         return Err(PdcpFault::Empty);
     }
-    if body.len() > 9_000 {
+    if body.len() > LONGEST_PDCP_SDU as usize {
         return Err(PdcpFault::Long);
     }
     Ok(PdcpView::Sdu { sn, body })
@@ -52,10 +52,12 @@ fn sdu(sn: u32, body: &[u8]) -> Result<PdcpView<'_>, PdcpFault>
 fn report(first: u8, rest: &[u8]) -> Result<PdcpView<'_>, PdcpFault>
     requires { first < 128 }
     ensures read { (size : SnSize) → IfOk result (λ v. IsPdcp size (pdcp_of v) (first ∷ rest.now)) }
-    ensures fits { (size : SnSize) → IfOk result (λ v. Fits size (pdcp_of v)) }
-    ensures spelt { (size : SnSize) (v : Pdcp) → IsPdcp size v (first ∷ rest.now) → IsOkAnd result (λ w. pdcp_of w ≡ v) }
-    ensures fault { (size : SnSize) → IfErr result (IsFault size (first ∷ rest.now)) }
-    ensures refused { (size : SnSize) (fault : PdcpFault) → IsFault size (first ∷ rest.now) fault → result ≡ Err fault }
+    ensures fits { (size : SnSize) → IfOk result (λ v. PdcpFits size (pdcp_of v)) }
+    ensures spelt { (size : SnSize) (v : Pdcp) → IsPdcp size v (first ∷ rest.now)
+        → IsOkAnd result (λ w. pdcp_of w ≡ v) }
+    ensures fault { (size : SnSize) → IfErr result (IsPdcpFault size (first ∷ rest.now)) }
+    ensures refused { (size : SnSize) (fault : PdcpFault)
+        → IsPdcpFault size (first ∷ rest.now) fault → result ≡ Err fault }
 {
     if first >= 16 {
         return Err(PdcpFault::ReservedType);

@@ -1,7 +1,7 @@
 // From fields to octets.
 ghost use Rattle.std.specs.Prelude.{◌≡◌, ◌<◌, ◌++◌, IfOk, OnOk};
 ghost use Rattle.link_base.specs.SequenceNumbers.{modulus};
-ghost use Rattle.pdcp_pdu.specs.Pdcp.{pdcp_of, IsPdcp, Fits, bytes_of, data_header, report_header};
+ghost use Rattle.pdcp_pdu.specs.Pdcp.{pdcp_of, IsPdcp, PdcpFits, pdcp_bytes, data_header, report_header};
 
 use crate::PdcpView;
 use link_base::{Bytes, Memory, SnSize};
@@ -12,8 +12,8 @@ use std::alloc::Global;
 /// The PDU must be one that the format can hold: an SN of the size, a body of 1 to 9,000 bytes, a report of at most
 /// 9,000 bytes in all.
 pub fn encode_pdcp(alloc: Global, size: SnSize, pdu: &PdcpView<'_>) -> Result<Bytes, Memory>
-    requires { Fits size (pdcp_of pdu.now) }
-    ensures bytes { IfOk result (λ bytes. bytes ≡ bytes_of size (pdcp_of pdu.now)) }
+    requires { PdcpFits size (pdcp_of pdu.now) }
+    ensures bytes { IfOk result (λ bytes. bytes ≡ pdcp_bytes size (pdcp_of pdu.now)) }
     ensures spelt { IfOk result (IsPdcp size (pdcp_of pdu.now)) }
 {
     let mut bytes = Bytes::new(alloc);

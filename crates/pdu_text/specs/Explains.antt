@@ -15,11 +15,11 @@ use Rattle.pdu_text.specs.Texts.{amd_text, status_text, srap_text, srap_fault_te
 -- the text explains the bytes in this form: that of the PDU that they spell, or, where they spell none, the word for their first fault
 abbrev pub Explains : Form → List ℕ → Bool → List ℕ → Type 0
 Explains (Amd size) bytes true text = (v : amd.Amd) × amd.IsAmd size v bytes × (text ≡ amd_text v)
-Explains (Amd size) bytes false text = (fault : AmdFault) × amd.IsFault size bytes fault × (text ≡ refused_text (amd_fault_text fault))
+Explains (Amd size) bytes false text = (fault : AmdFault) × amd.IsAmdFault size bytes fault × (text ≡ refused_text (amd_fault_text fault))
 Explains (StatusForm size) bytes true text = (v : Status) × status.IsStatus size v bytes × (text ≡ status_text v)
-Explains (StatusForm size) bytes false text = (fault : StatusFault) × status.IsFault size bytes fault × (text ≡ refused_text (status_fault_text fault))
+Explains (StatusForm size) bytes false text = (fault : StatusFault) × status.IsStatusFault size bytes fault × (text ≡ refused_text (status_fault_text fault))
 Explains Srap bytes true text = (v : srap.Srap) × srap.IsSrap v bytes × (text ≡ srap_text v)
-Explains Srap bytes false text = (fault : SrapFault) × srap.IsFault bytes fault × (text ≡ refused_text (srap_fault_text fault))
+Explains Srap bytes false text = (fault : SrapFault) × srap.IsSrapFault bytes fault × (text ≡ refused_text (srap_fault_text fault))
 
 -- behind what was written there stands an explanation of the bytes
 pub record AddsExplanation (form : Form) (bytes : List ℕ) (read : Bool) (before after : List ℕ) : Type 0 where

@@ -1,6 +1,6 @@
 -- What holds of explanations, whoever writes them.
 use Rattle.std.specs.Prelude.{◌≡◌, ℕ, Bool, List}
-use Rattle.rlc_pdu.specs.Laws.{AreOctets}
+use Rattle.link_base.specs.Octets.{AreOctets}
 use Rattle.pdu_text.specs.declared.form.Form.{Form}
 use Rattle.pdu_text.specs.Explains.{Explains}
 

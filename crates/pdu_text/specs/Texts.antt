@@ -28,6 +28,7 @@ si_text Middle = codes "middle"
 abbrev pub amd_words : Amd → List (List ℕ)
 amd_words v = codes "amd" ∷ codes "sn" ∷ decimal v.sn ∷ codes "poll" ∷ decimal (flag v.poll) ∷ codes "si" ∷ si_text v.si ∷ codes "so" ∷ decimal v.so ∷ codes "body" ∷ hex_text v.body ∷ []
 
+-- what is shown of a data PDU
 abbrev pub amd_text : Amd → List ℕ
 amd_text v = line_of (amd_words v)
 
@@ -45,6 +46,7 @@ range_text (Some range) = decimal range
 abbrev pub nack_words : Nack → List (List ℕ)
 nack_words nack = codes "nack" ∷ decimal nack.sn ∷ codes "part" ∷ part_text nack.part ∷ codes "range" ∷ range_text nack.range ∷ []
 
+-- what is shown of an element of a STATUS PDU
 abbrev pub nack_text : Nack → List ℕ
 nack_text nack = line_of (nack_words nack)
 
@@ -60,6 +62,7 @@ status_text status = line_of (status_words status) ++ flat_map nack_text status.
 abbrev pub srap_words : Srap → List (List ℕ)
 srap_words v = codes "srap" ∷ codes "bearer" ∷ decimal v.bearer ∷ codes "ue" ∷ decimal v.ue ∷ codes "body" ∷ hex_text v.body ∷ []
 
+-- what is shown of a SRAP data PDU
 abbrev pub srap_text : Srap → List ℕ
 srap_text v = line_of (srap_words v)
 

@@ -18,7 +18,9 @@ pub(crate) fn push_shown_amd(
     size: SnSize,
     bytes: &[u8],
 ) -> Result<bool, Memory>
-    ensures { IfOk result (λ read. AddsExplanation (Form.Amd size) bytes.now read (string_bytes out.old) (string_bytes out.new)) }
+    ensures { IfOk result
+        (λ read. AddsExplanation (Form.Amd size) bytes.now read (string_bytes out.old)
+        (string_bytes out.new)) }
 {
     match decode_amd(size, bytes) {
         Ok(pdu) => {
@@ -33,7 +35,8 @@ pub(crate) fn push_shown_amd(
 }
 
 fn push_amd(alloc: Global, out: &mut String, pdu: &AmdView<'_>) -> Result<(), AllocError>
-    ensures { OnOk result (string_bytes out.new ≡ string_bytes out.old ++ amd_text (amd_of pdu.now)) }
+    ensures { OnOk result
+        (string_bytes out.new ≡ string_bytes out.old ++ amd_text (amd_of pdu.now)) }
 {
     let sn = pdu.sn;
     let poll = u8::from(pdu.poll);

@@ -14,7 +14,9 @@ use std::alloc::Global;
 ///
 /// It fails only for want of memory, and then a part of the text may be added.
 pub fn push_shown(alloc: Global, out: &mut String, form: Form, bytes: &[u8]) -> Result<bool, Memory>
-    ensures { IfOk result (λ read. AddsExplanation form bytes.now read (string_bytes out.old) (string_bytes out.new)) }
+    ensures { IfOk result
+        (λ read. AddsExplanation form bytes.now read (string_bytes out.old)
+        (string_bytes out.new)) }
 {
     match form {
         Form::Amd(size) => push_shown_amd(alloc, out, size, bytes),

@@ -12,7 +12,9 @@ use std::alloc::{AllocError, Global};
 
 /// Adds the text of the SRAP data PDU that bytes spell, or that of their first fault. Answers whether they spell one.
 pub(crate) fn push_shown_srap(alloc: Global, out: &mut String, bytes: &[u8]) -> Result<bool, Memory>
-    ensures { IfOk result (λ read. AddsExplanation Form.Srap bytes.now read (string_bytes out.old) (string_bytes out.new)) }
+    ensures { IfOk result
+        (λ read. AddsExplanation Form.Srap bytes.now read (string_bytes out.old)
+        (string_bytes out.new)) }
 {
     match read(bytes) {
         Ok(pdu) => {
@@ -27,7 +29,8 @@ pub(crate) fn push_shown_srap(alloc: Global, out: &mut String, bytes: &[u8]) -> 
 }
 
 fn push_srap(alloc: Global, out: &mut String, pdu: &SrapView<'_>) -> Result<(), AllocError>
-    ensures { OnOk result (string_bytes out.new ≡ string_bytes out.old ++ srap_text (srap_of pdu.now)) }
+    ensures { OnOk result
+        (string_bytes out.new ≡ string_bytes out.old ++ srap_text (srap_of pdu.now)) }
 {
     let bearer = pdu.bearer;
     let ue = pdu.ue;

@@ -18,7 +18,9 @@ pub(crate) fn push_shown_status(
     size: SnSize,
     bytes: &[u8],
 ) -> Result<bool, Memory>
-    ensures { IfOk result (λ read. AddsExplanation (Form.Status size) bytes.now read (string_bytes out.old) (string_bytes out.new)) }
+    ensures { IfOk result
+        (λ read. AddsExplanation (Form.Status size) bytes.now read (string_bytes out.old)
+        (string_bytes out.new)) }
 {
     match decode_status(alloc, size, bytes) {
         Ok(status) => {
@@ -42,7 +44,8 @@ fn push_status(out: &mut String, status: &Status) -> Result<(), AllocError>
 
 /// Adds the first line: ACK_SN, and how many elements there are.
 fn push_acknowledgement(out: &mut String, status: &Status) -> Result<(), AllocError>
-    ensures { OnOk result (string_bytes out.new ≡ string_bytes out.old ++ line_of (status_words status.now)) }
+    ensures { OnOk result
+        (string_bytes out.new ≡ string_bytes out.old ++ line_of (status_words status.now)) }
 {
     let ack = status.ack;
     let nacks = status.nacks.len();
@@ -50,7 +53,8 @@ fn push_acknowledgement(out: &mut String, status: &Status) -> Result<(), AllocEr
 }
 
 fn push_nacks(out: &mut String, nacks: &[Nack]) -> Result<(), AllocError>
-    ensures { OnOk result (string_bytes out.new ≡ string_bytes out.old ++ flat_map nack_text nacks.now) }
+    ensures { OnOk result
+        (string_bytes out.new ≡ string_bytes out.old ++ flat_map nack_text nacks.now) }
 {
     for nack in nacks {
         push_nack(out, nack)?;

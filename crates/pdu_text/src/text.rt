@@ -9,7 +9,9 @@ use std::alloc::{AllocError, Global};
 
 /// Adds the body of a PDU, with which its line ends.
 pub(crate) fn push_body(alloc: Global, out: &mut String, body: &[u8]) -> Result<(), AllocError>
-    ensures { OnOk result (string_bytes out.new ≡ string_bytes out.old ++ spaced (codes "body" ∷ hex_text body.now ∷ []) ++ 10 ∷ []) }
+    ensures { OnOk result
+        (string_bytes out.new ≡ string_bytes out.old
+        ++ spaced (codes "body" ∷ hex_text body.now ∷ []) ++ 10 ∷ []) }
 {
     out.push_str(" body ")?;
     push_hex(alloc, out, body)?;

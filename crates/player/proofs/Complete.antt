@@ -16,9 +16,9 @@ use Rattle.script_text.specs.Words.{words_of}
 use Rattle.script_text.specs.Lines.{is_skipped, part_of, Spells}
 use Rattle.script_text.specs.Splits.{HasNoLf, Splits, IsLong, IsTooLong}
 use Rattle.script_text.specs.Stages.{after}
-use Rattle.script_text.specs.Grammar.{IsBad, IsFirst, Parses, reasons}
+use Rattle.script_text.specs.Grammar.{IsBad, IsFirstReason, Parses, reasons}
 use Rattle.script_text.specs.Texts.{is_running}
-use Rattle.script_text.specs.History.{Entry, Reads, Spelt}
+use Rattle.script_text.specs.History.{Entry, ReadsLines, Spelt}
 use Rattle.script_text.proofs.OneLine.{one_line}
 use Rattle.script_text.proofs.OneParse.{one_parse}
 use Rattle.script_text.proofs.SpeltIsRead.{spelt_is_read}
@@ -68,7 +68,7 @@ not_longer bytes a x b y s t =
     within_line bytes a x (length b) s le (subst HasNoLf (sym (line_is bytes b y t)) t.one)
 
 -- bytes split off one line
-splits_one : (bytes a x b y : List ℕ) → Splits bytes a x → Splits bytes b y → (a ≡ b) × (x ≡ y)
+pub splits_one : (bytes a x b y : List ℕ) → Splits bytes a x → Splits bytes b y → (a ≡ b) × (x ≡ y)
 splits_one bytes a x b y s t =
     let ge = not_longer bytes a x b y s t in
     let le = not_longer bytes b y a x t s in
@@ -78,14 +78,14 @@ splits_one bytes a x b y s t =
     )
 
 -- no line splits off where no byte is left
-splits_none : (bytes line after : List ℕ) → bytes ≡ [] → Splits bytes line after → ⊥
+pub splits_none : (bytes line after : List ℕ) → bytes ≡ [] → Splits bytes line after → ⊥
 splits_none bytes line after none s = elim s.ends [
   | inl lf ↦ omega (arith, ap length none, ap length lf, length-append line (10 ∷ after))
   | inr end ↦ omega (arith, ap length none, ap length end.0, end.2)
 ]
 
 -- as many lines of an input are the same lines
-reads_one : (input : List ℕ) (texts : List (List ℕ)) (rest : List ℕ) (texts' : List (List ℕ)) (rest' : List ℕ) → Reads input texts rest → Reads input texts' rest' → length texts ≡ length texts'
+pub reads_one : (input : List ℕ) (texts : List (List ℕ)) (rest : List ℕ) (texts' : List (List ℕ)) (rest' : List ℕ) → ReadsLines input texts rest → ReadsLines input texts' rest' → length texts ≡ length texts'
     → (texts ≡ texts') × (rest ≡ rest')
 reads_one input [] rest [] rest' r r' many = (refl, r ∙ sym r')
 reads_one input [] rest (t ∷ texts') rest' r r' many = absurd (omega arith)
@@ -101,7 +101,7 @@ same_stage : (a b : ScriptStage) → (let r : Result ScriptStage TableFault = Ok
 same_stage a b e = cc
 
 -- lines lead to one stage
-leads_one : (texts : List (List ℕ)) (s t : ScriptStage) → LeadsToStage texts s → LeadsToStage texts t → s ≡ t
+pub leads_one : (texts : List (List ℕ)) (s t : ScriptStage) → LeadsToStage texts s → LeadsToStage texts t → s ≡ t
 leads_one [] s t x y = x ∙ sym y
 leads_one (text ∷ texts) s t (inl x) (inl y) = leads_one texts s t x.1 y.1
 leads_one (text ∷ texts) s t (inl x) (inr y) = absurd (false≢true (sym y.0 ∙ x.0))
@@ -112,7 +112,7 @@ leads_one (text ∷ texts) s t (inr x) (inr y) =
     same_stage s t (sym x.5.enters ∙ (ap (λ (u : ScriptStage). after u x.1) before ∙ (ap (λ (l : Line). after y.2 l) line ∙ y.5.enters)))
 
 -- the lines of a history lead to its stage
-leads_of : (texts : List (List ℕ)) (h : List Entry) (stage : ScriptStage) (c : Chain) → Spelt texts h → LeadsTo h stage c → LeadsToStage texts stage
+pub leads_of : (texts : List (List ℕ)) (h : List Entry) (stage : ScriptStage) (c : Chain) → Spelt texts h → LeadsTo h stage c → LeadsToStage texts stage
 leads_of [] [] stage c x l = l.0
 leads_of [] (e ∷ h) stage c x l = absurd x
 leads_of (text ∷ texts) [] stage c x l = inl (x.0, leads_of texts [] stage c x.1 l)
@@ -138,16 +138,16 @@ stays_ended text texts s ended (inl x) = ended s x.1
 stays_ended text texts s ended (inr x) = absurd (ended_none x.2 s x.1 (ended x.2 x.3) x.5)
 
 -- a script may end at this stage with this rest left
-abbrev IsEnd : ScriptStage → List ℕ → Type 0
+abbrev pub IsEnd : ScriptStage → List ℕ → Type 0
 IsEnd stage rest = (is_ended stage.part ≡ true) ⊎ ((is_running stage.part ≡ true) × (rest ≡ []))
 
 -- a line that follows a script's end follows its end line
-ended_before : (rest text after : List ℕ) (s : ScriptStage) → IsEnd s rest → Splits rest text after → is_ended s.part ≡ true
+pub ended_before : (rest text after : List ℕ) (s : ScriptStage) → IsEnd s rest → Splits rest text after → is_ended s.part ≡ true
 ended_before rest text after s (inl ended) splits = ended
 ended_before rest text after s (inr over) splits = absurd (splits_none rest text after over.1 splits)
 
 -- more lines than a script has lead to an ended stage
-past_end : (input : List ℕ) (texts : List (List ℕ)) (rest : List ℕ) (s : ScriptStage) (whole : List (List ℕ)) (end : List ℕ) (last : ScriptStage) → Reads input texts rest → Reads input whole end → LeadsToStage texts s → LeadsToStage whole last
+pub past_end : (input : List ℕ) (texts : List (List ℕ)) (rest : List ℕ) (s : ScriptStage) (whole : List (List ℕ)) (end : List ℕ) (last : ScriptStage) → ReadsLines input texts rest → ReadsLines input whole end → LeadsToStage texts s → LeadsToStage whole last
     → IsEnd last end → length whole < length texts → is_ended s.part ≡ true
 past_end input [] rest s whole end last r w l m is more = absurd (omega arith)
 past_end input (text ∷ texts) rest s whole end last r w l m is more = stays_ended text texts s (λ before x.
@@ -160,7 +160,7 @@ past_end input (text ∷ texts) rest s whole end last r w l m is more = stays_en
     ]) l
 
 -- the script has a line behind these, which stands where it may
-record GoesOn (input : List ℕ) (texts : List (List ℕ)) (rest : List ℕ) : Type 0 where
+pub record GoesOn (input : List ℕ) (texts : List (List ℕ)) (rest : List ℕ) : Type 0 where
   pub text : List ℕ
   pub after : List ℕ
   pub stage : ScriptStage
@@ -170,7 +170,7 @@ record GoesOn (input : List ℕ) (texts : List (List ℕ)) (rest : List ℕ) : T
   pub leads : LeadsToStage (text ∷ texts) stage
 
 -- fewer lines than a script has go on in it
-goes_on : (input : List ℕ) (texts : List (List ℕ)) (rest : List ℕ) (whole : List (List ℕ)) (end : List ℕ) (last : ScriptStage) → Reads input texts rest → Reads input whole end → LeadsToStage whole last → length texts < length whole
+pub goes_on : (input : List ℕ) (texts : List (List ℕ)) (rest : List ℕ) (whole : List (List ℕ)) (end : List ℕ) (last : ScriptStage) → ReadsLines input texts rest → ReadsLines input whole end → LeadsToStage whole last → length texts < length whole
     → GoesOn input texts rest
 goes_on input texts rest [] end last r w l less = absurd (omega arith)
 goes_on input texts rest (text ∷ whole) end last r w l less = elim (cases_eq (length texts) (length whole)) [
@@ -191,14 +191,14 @@ goes_on input texts rest (text ∷ whole) end last r w l less = elim (cases_eq (
 ]
 
 -- a line of at most 65,536 bytes isn't long
-long_stops : (used : ℕ) (rest text after : List ℕ) → Splits rest text after → length text ≤ 65536 → IsLong used rest → ⊥
+pub long_stops : (used : ℕ) (rest text after : List ℕ) → Splits rest text after → length text ≤ 65536 → IsLong used rest → ⊥
 long_stops used rest text after splits short long =
     let past = within_line rest text after 65537 splits long.enough long.one in
     omega arith
 
 -- a line that ends in time isn't too long
-too_long_stops : (input rest text after : List ℕ) (used : ℕ) → used + length rest ≡ length input → Splits rest text after → length input ≤ 16777216 + length after → IsTooLong used rest → ⊥
-too_long_stops input rest text after used place splits limit long =
+pub too_long_stops : (used : ℕ) (rest text after : List ℕ) → Splits rest text after → used + length rest ≤ 16777216 + length after → IsTooLong used rest → ⊥
+too_long_stops used rest text after splits within long =
     let past = within_line rest text after long.left splits (omega (arith, long.past, long.place)) long.one in
     elim splits.ends [
       | inl lf ↦ omega (arith, ap length lf, length-append text (10 ∷ after), long.place)
@@ -223,10 +223,10 @@ module _ (texts : List (List ℕ)) (text : List ℕ) (s t : ScriptStage) (short 
       let same = leads_one texts before s older l in
       subst (λ (u : ScriptStage). Parses u text (Ok (Some line)) t) same (spelt_is_read before t text line short (record { stands = stands.part; spelt = spelt }) stands.enters)
 
-  not_bad : (why : Reason) → LeadsToStage (text ∷ texts) t → IsFirst (IsBad s text) (reasons text) why → ⊥
-  not_bad why (inl x) first = only_long (subst (λ b. IsFirst (IsBad s text) (cond b (reason.Line ∷ []) (reason.Line ∷ reason.Text ∷ reason.Version ∷ reason.Word ∷ reason.Form ∷ reason.Range ∷ reason.Twice ∷ reason.Unknown ∷ reason.Limit ∷ reason.Map ∷ [])) why) x.0 first)
+  not_bad : (why : Reason) → LeadsToStage (text ∷ texts) t → IsFirstReason (IsBad s text) (reasons text) why → ⊥
+  not_bad why (inl x) first = only_long (subst (λ b. IsFirstReason (IsBad s text) (cond b (reason.Line ∷ []) (reason.Line ∷ reason.Text ∷ reason.Version ∷ reason.Word ∷ reason.Form ∷ reason.Range ∷ reason.Twice ∷ reason.Unknown ∷ reason.Limit ∷ reason.Map ∷ [])) why) x.0 first)
     where
-      only_long : IsFirst (IsBad s text) (reason.Line ∷ []) why → ⊥
+      only_long : IsFirstReason (IsBad s text) (reason.Line ∷ []) why → ⊥
       only_long (inl y) = omega (arith, short, y.1)
       only_long (inr y) = y.1
   not_bad why (inr x) first =
@@ -248,18 +248,18 @@ module _ (input : List ℕ) (texts : List (List ℕ)) (h : List Entry) (stage : 
   goes_on_well reason.End x = splits_none rest g.text g.after x.1 g.splits
   goes_on_well why x =
       let same = splits_one rest x.0 x.1.0 g.text g.after x.1.1 g.splits in
-      not_bad texts g.text stage g.stage g.short l why g.leads (subst (λ (t : List ℕ). IsFirst (IsBad stage t) (reasons t) why) same.0 x.2)
+      not_bad texts g.text stage g.stage g.short l why g.leads (subst (λ (t : List ℕ). IsFirstReason (IsBad stage t) (reasons t) why) same.0 x.2)
 
-  going_on_done : (ending : Ending) (out : List ℕ) → Stops (length texts) h stage c used rest ending out → ending ≡ Done
+  pub going_on_done : (ending : Ending) (out : List ℕ) → Stops (length texts) h stage c used rest ending out → ending ≡ Done
   going_on_done Done out x = refl
   going_on_done (Bad why) out x = absurd (goes_on_well why x.1)
   going_on_done Later out x =
       let same = splits_one rest x.1 x.2.0 g.text g.after x.2.1 g.splits in
       absurd (not_later texts g.text stage g.stage g.short l g.leads (subst (IsLater stage) same.0 x.3))
-  going_on_done TooLong out x = absurd (too_long_stops input rest g.text g.after used place g.splits g.limit x.1)
+  going_on_done TooLong out x = absurd (too_long_stops used rest g.text g.after g.splits (omega (arith, place, g.limit)) x.1)
 
 -- the last of the lines that lead behind go ends in time
-ends_in_time : (input : List ℕ) (texts : List (List ℕ)) (rest : List ℕ) (s : ScriptStage) → Reads input texts rest → LeadsToStage texts s → is_running s.part ≡ true → length input ≤ 16777216 + length rest
+ends_in_time : (input : List ℕ) (texts : List (List ℕ)) (rest : List ℕ) (s : ScriptStage) → ReadsLines input texts rest → LeadsToStage texts s → is_running s.part ≡ true → length input ≤ 16777216 + length rest
 ends_in_time input [] rest s r l is = absurd (false≢true (sym (ap (λ (u : ScriptStage). is_running u.part) l) ∙ is))
 ends_in_time input (text ∷ texts) rest s r l is = r.4
 
@@ -271,7 +271,7 @@ module _ (input : List ℕ) (texts : List (List ℕ)) (h : List Entry) (stage : 
   over_well reason.End x = false≢true (sym x.0 ∙ running)
   over_well why x = splits_none rest x.0 x.1.0 none x.1.1
 
-  over_stops : (ending : Ending) (out : List ℕ) → Reads input texts rest → Stops (length texts) h stage c used rest ending out → ending ≡ Done
+  pub over_stops : (ending : Ending) (out : List ℕ) → ReadsLines input texts rest → Stops (length texts) h stage c used rest ending out → ending ≡ Done
   over_stops Done out r x = refl
   over_stops (Bad why) out r x = absurd (over_well why x.1)
   over_stops Later out r x = absurd (splits_none rest x.1 x.2.0 none x.2.1)
@@ -280,7 +280,7 @@ module _ (input : List ℕ) (texts : List (List ℕ)) (h : List Entry) (stage : 
       absurd (omega (arith, ap length none, x.1.past))
 
 -- behind an end line too
-ended_stops : (lines : ℕ) (h : List Entry) (stage : ScriptStage) (c : Chain) (used : ℕ) (rest : List ℕ) (ending : Ending) (out : List ℕ) → is_ended stage.part ≡ true → Stops lines h stage c used rest ending out → ending ≡ Done
+pub ended_stops : (lines : ℕ) (h : List Entry) (stage : ScriptStage) (c : Chain) (used : ℕ) (rest : List ℕ) (ending : Ending) (out : List ℕ) → is_ended stage.part ≡ true → Stops lines h stage c used rest ending out → ending ≡ Done
 ended_stops lines h stage c used rest Done out is x = refl
 ended_stops lines h stage c used rest (Bad why) out is x = absurd (false≢true (sym x.0 ∙ is))
 ended_stops lines h stage c used rest Later out is x = absurd (false≢true (sym x.0 ∙ is))

@@ -2,6 +2,9 @@ pub mod Receiving
 pub mod Passing
 pub mod OnAir
 pub mod Carrying
-pub mod Going
+pub mod RunUnderWay
 pub mod Commands
 pub mod Complete
+pub mod OneEnding
+pub mod Arguments
+pub mod Serving

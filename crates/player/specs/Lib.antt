@@ -1,3 +1,4 @@
+pub mod Arguments
 pub mod Commands
 pub mod Ended
 pub mod Finishes
@@ -6,5 +7,6 @@ pub mod Playable
 pub mod Plays
 pub mod Receives
 pub mod Runs
+pub mod Serves
 pub mod Session
 pub mod Turns

@@ -8,7 +8,7 @@ use Rattle.script_text.specs.declared.stage.ScriptStage.{ScriptStage}
 use Rattle.script_text.specs.Words.{words_of}
 use Rattle.script_text.specs.Lines.{is_skipped, IsLineOf, Spells}
 use Rattle.script_text.specs.Stages.{after}
-use Rattle.script_text.specs.Grammar.{IsBad, IsFirst, HoldsNone, reasons}
+use Rattle.script_text.specs.Grammar.{IsBad, IsFirstReason, NoneHolds, reasons}
 use Rattle.script_text.specs.History.{Entry, trace}
 use Rattle.chain_model.specs.Tables.{contents, is_carried}
 use Rattle.chain_model.specs.Steps.{LeadsTo}
@@ -21,14 +21,14 @@ Plays p h = LeadsTo h p.stage p.session
 pub record IsLater (stage : ScriptStage) (text : List ℕ) : Type 0 where
   pub line : Line
   pub next : ScriptStage
-  pub good : HoldsNone (IsBad stage text) (reasons text)
+  pub good : NoneHolds (IsBad stage text) (reasons text)
   pub is_line : IsLineOf stage.part (words_of text) line
   pub enters : after stage line ≡ Ok next
   pub not_carried : is_carried (contents next) line ≡ false
 
 -- from a history, its trace and its stage, a line's text leads to this player and this text
-abbrev pub Reads : List ℕ → List Entry → ScriptStage → Progress → Player → List ℕ → Type 0
-Reads text h stage Skipped p out = (is_skipped text ≡ true) × Plays p h × (out ≡ trace h)
-Reads text h stage Carried p out = (is_skipped text ≡ false) × (e : Entry) × Spells (words_of text) e.line × Plays p (e ∷ h) × (out ≡ trace (e ∷ h))
-Reads text h stage Later p out = (is_skipped text ≡ false) × IsLater stage text × (out ≡ trace h)
-Reads text h stage (Bad reason) p out = IsFirst (IsBad stage text) (reasons text) reason × (out ≡ trace h)
+abbrev pub ReadsText : List ℕ → List Entry → ScriptStage → Progress → Player → List ℕ → Type 0
+ReadsText text h stage Skipped p out = (is_skipped text ≡ true) × Plays p h × (out ≡ trace h)
+ReadsText text h stage Carried p out = (is_skipped text ≡ false) × (e : Entry) × Spells (words_of text) e.line × Plays p (e ∷ h) × (out ≡ trace (e ∷ h))
+ReadsText text h stage Later p out = (is_skipped text ≡ false) × IsLater stage text × (out ≡ trace h)
+ReadsText text h stage (Bad reason) p out = IsFirstReason (IsBad stage text) (reasons text) reason × (out ≡ trace h)

@@ -1,5 +1,5 @@
 -- A whole run over an input: the lines that were carried out, and what was written.
-use Rattle.std.specs.Prelude.{◌≡◌, ◌⊎◌, ℕ, ◌+◌, ◌≤◌, true, false, List, [], ◌∷◌, ◌++◌, length, Some, codes}
+use Rattle.std.specs.Prelude.{◌≡◌, ◌≢◌, ◌⊎◌, ℕ, ◌+◌, true, false, List, [], ◌∷◌, ◌++◌, length, Some, codes}
 use Rattle.link_base.specs.declared.names.Key.{Key}
 use Rattle.link_base.specs.declared.names.Way.TheVariants.{Dl}
 use Rattle.script_text.specs.declared.line.Line.{Line}
@@ -9,11 +9,11 @@ use Rattle.script_text.specs.declared.stage.ScriptStage.{ScriptStage}
 use Rattle.script_text.specs.declared.trace.Total.{Total}
 use Rattle.script_text.specs.Words.{words_of}
 use Rattle.script_text.specs.Lines.{is_skipped, Spells}
-use Rattle.script_text.specs.Splits.{Splits, IsLong, IsTooLong}
+use Rattle.script_text.specs.Splits.{Splits, EndsInTime, IsLong, IsTooLong}
 use Rattle.script_text.specs.Stages.{first_stage}
-use Rattle.script_text.specs.Grammar.{IsBad, IsFirst, reasons}
+use Rattle.script_text.specs.Grammar.{IsBad, IsFirstReason, reasons}
 use Rattle.script_text.specs.Texts.{is_running, totals_text, done_text, bad_text, reason_text, too_long_text}
-use Rattle.script_text.specs.History.{Entry, trace, Reads, Spelt}
+use Rattle.script_text.specs.History.{Entry, trace, ReadsLines, Spelt}
 use Rattle.chain_model.specs.Tables.{direct_size, is_served}
 use Rattle.rlc_model.specs.declared.hop.Pdu.{Pdu}
 use Rattle.chain_model.specs.Air.{air_entry}
@@ -27,9 +27,9 @@ use Rattle.player.specs.declared.play.Ending.TheVariants.{Done, Later, Bad, TooL
 use Rattle.player.specs.Ended.{is_ended}
 use Rattle.player.specs.Plays.{IsLater}
 
--- the next line of the rest is this text, which has at most 65,536 bytes
-abbrev pub NextIs : List ℕ → List ℕ → Type 0
-NextIs rest text = (after : List ℕ) × Splits rest text after × (length text ≤ 65536)
+-- the next line of the rest, behind so many bytes of the input, is this text, and ends in time
+abbrev pub NextIs : ℕ → List ℕ → List ℕ → Type 0
+NextIs used rest text = (after : List ℕ) × Splits rest text after × EndsInTime used rest text after
 
 -- the totals of the bearer, uplink and downlink, where nothing goes
 abbrev pub totals_of : Key → List Entry → List Total
@@ -46,7 +46,7 @@ pub record Totals (c : Chain) (h : List Entry) (text : List ℕ) : Type 0 where
 abbrev pub IsBadNext : ScriptStage → ℕ → List ℕ → Reason → Type 0
 IsBadNext stage used rest reason.Line = IsLong used rest
 IsBadNext stage used rest reason.End = (is_running stage.part ≡ false) × (rest ≡ [])
-IsBadNext stage used rest why = (text : List ℕ) × NextIs rest text × IsFirst (IsBad stage text) (reasons text) why
+IsBadNext stage used rest why = (text : List ℕ) × NextIs used rest text × IsFirstReason (IsBad stage text) (reasons text) why
 
 -- why a run stopped at a stage behind so many lines, where this rest of the input was left, and what was written
 abbrev pub Stops : ℕ → List Entry → ScriptStage → Chain → ℕ → List ℕ → Ending → List ℕ → Type 0
@@ -55,7 +55,7 @@ Stops lines h stage c used rest Done out = ((is_ended stage.part ≡ true) ⊎ (
 -- at a line that is no line of the script, or at the input's end before go
 Stops lines h stage c used rest (Bad why) out = (is_ended stage.part ≡ false) × IsBadNext stage used rest why × (out ≡ trace h ++ bad_text (lines + 1) (reason_text why))
 -- at a line of a form that isn't carried out yet
-Stops lines h stage c used rest Later out = (is_ended stage.part ≡ false) × (text : List ℕ) × NextIs rest text × IsLater stage text × (out ≡ trace h ++ bad_text (lines + 1) (codes "later"))
+Stops lines h stage c used rest Later out = (is_ended stage.part ≡ false) × (text : List ℕ) × NextIs used rest text × IsLater stage text × (out ≡ trace h ++ bad_text (lines + 1) (codes "later"))
 -- at a line that ends past the script's greatest length
 Stops lines h stage c used rest TooLong out = (is_ended stage.part ≡ false) × IsTooLong used rest × (out ≡ trace h ++ too_long_text)
 
@@ -66,7 +66,7 @@ pub record IsRun (input : List ℕ) (ending : Ending) (out : List ℕ) : Type 0 
   pub rest : List ℕ
   pub used : ℕ
   pub place : used + length rest ≡ length input
-  pub reads : Reads input texts rest
+  pub reads : ReadsLines input texts rest
   pub spelt : Spelt texts history
   pub stage : ScriptStage
   pub chain : Chain
@@ -88,10 +88,14 @@ pub record IsScript (input : List ℕ) : Type 0 where
   pub texts : List (List ℕ)
   pub rest : List ℕ
   pub stage : ScriptStage
-  pub reads : Reads input texts rest
+  pub reads : ReadsLines input texts rest
   pub leads : LeadsToStage texts stage
   pub ends : (is_ended stage.part ≡ true) ⊎ ((is_running stage.part ≡ true) × (rest ≡ []))
 
 -- a run over a script of lines that are carried out comes to its end
 abbrev pub ScriptsEnd : Type 0
 ScriptsEnd = (input : List ℕ) (ending : Ending) (out : List ℕ) → IsRun input ending out → IsScript input → ending ≡ Done
+
+-- all runs over an input end alike and, but behind its last line, at the same line
+abbrev pub OneEnding : Type 0
+OneEnding = (input : List ℕ) (a b : Ending) (out out' : List ℕ) (p : IsRun input a out) (q : IsRun input b out') → (a ≡ b) × (a ≢ Done → p.texts ≡ q.texts)

@@ -2,7 +2,7 @@
 use Rattle.std.specs.Prelude.{◌≡◌, ◌⊎◌, ℕ, true, false, List, ◌++◌, codes, Option, Some, None}
 use Rattle.script_text.specs.declared.reason.Reason.TheVariants.{End}
 use Rattle.script_text.specs.declared.stage.ScriptStage.{ScriptStage}
-use Rattle.script_text.specs.Grammar.{IsBad, IsFirst, reasons}
+use Rattle.script_text.specs.Grammar.{IsBad, IsFirstReason, reasons}
 use Rattle.script_text.specs.Texts.{is_running, bad_text, reason_text}
 use Rattle.script_text.specs.History.{Entry, trace}
 use Rattle.player.specs.declared.player_state.Player.{Player}
@@ -10,13 +10,13 @@ use Rattle.player.specs.declared.player_state.Progress.TheVariants.{Skipped, Car
 use Rattle.player.specs.declared.play.Ending.{Ending}
 use Rattle.player.specs.declared.play.Ending.TheVariants.{Done, Later, Bad}
 use Rattle.player.specs.Finishes.{Finishes}
-use Rattle.player.specs.Plays.{IsLater, Reads}
+use Rattle.player.specs.Plays.{IsLater, ReadsText}
 
 -- from a history, its trace and its stage, a line's text and number lead to this player and this text, or the run ends so
 abbrev pub TurnsAt : List ℕ → List Entry → ScriptStage → ℕ → Option Ending → Player → List ℕ → Type 0
-TurnsAt text h stage number None p out = Reads text h stage Skipped p out ⊎ Reads text h stage Carried p out
+TurnsAt text h stage number None p out = ReadsText text h stage Skipped p out ⊎ ReadsText text h stage Carried p out
 TurnsAt text h stage number (Some Later) p out = IsLater stage text × (out ≡ trace h ++ bad_text number (codes "later"))
-TurnsAt text h stage number (Some (Bad why)) p out = IsFirst (IsBad stage text) (reasons text) why × (out ≡ trace h ++ bad_text number (reason_text why))
+TurnsAt text h stage number (Some (Bad why)) p out = IsFirstReason (IsBad stage text) (reasons text) why × (out ≡ trace h ++ bad_text number (reason_text why))
 TurnsAt text h stage number (Some ending) p out = ⊥
 
 -- at the input's end a run is done behind go, and else it lacks go; the line that isn't there has this number

@@ -109,7 +109,9 @@ fn read_line(
 
 /// The run stops at a line with this number, which is bad for this reason.
 fn stop_at(out: &mut String, number: u64, reason: Reason) -> Result<Ending, Memory>
-    ensures { IfOk result (λ ending. (ending ≡ Ending.Bad reason) × (string_bytes out.new ≡ string_bytes out.old ++ bad_text number (reason_text reason))) }
+    ensures { IfOk result
+        (λ ending. (ending ≡ Ending.Bad reason)
+        × (string_bytes out.new ≡ string_bytes out.old ++ bad_text number (reason_text reason))) }
 {
     push_bad_line(out, number, reason.word())?;
     Ok(Ending::Bad(reason))
@@ -117,7 +119,9 @@ fn stop_at(out: &mut String, number: u64, reason: Reason) -> Result<Ending, Memo
 
 /// The run stops at a line that ends past the script's greatest length.
 fn stop_past_limit(out: &mut String) -> Result<Ending, Memory>
-    ensures { IfOk result (λ ending. (ending ≡ Ending.TooLong) × (string_bytes out.new ≡ string_bytes out.old ++ too_long_text)) }
+    ensures { IfOk result
+        (λ ending. (ending ≡ Ending.TooLong)
+        × (string_bytes out.new ≡ string_bytes out.old ++ too_long_text)) }
 {
     push_too_long(out)?;
     Ok(Ending::TooLong)
@@ -130,7 +134,9 @@ fn stop_at_end(
     out: &mut String,
     number: u64,
 ) -> Result<Ending, Memory>
-    ensures { IfOk result (λ ending. StopsAtEnd player.now number (string_bytes out.old) ending (string_bytes out.new)) }
+    ensures { IfOk result
+        (λ ending. StopsAtEnd player.now number (string_bytes out.old) ending
+        (string_bytes out.new)) }
 {
     if player.is_running() {
         let ending = end(alloc, &player.session, out)?;
@@ -142,7 +148,9 @@ fn stop_at_end(
 
 /// The run comes to its end.
 fn end(alloc: Global, session: &Session, out: &mut String) -> Result<Ending, Memory>
-    ensures { IfOk result (λ ending. (ending ≡ Ending.Done) × Finishes session.now (string_bytes out.old) (string_bytes out.new)) }
+    ensures { IfOk result
+        (λ ending. (ending ≡ Ending.Done)
+        × Finishes session.now (string_bytes out.old) (string_bytes out.new)) }
 {
     finish(alloc, session, out)?;
     Ok(Ending::Done)

@@ -36,7 +36,7 @@ impl Player {
     ghost use Rattle.chain_law.specs.Fits.{Fits};
     ghost use Rattle.player.specs.Ended.{is_ended};
     ghost use Rattle.player.specs.Playable.{IsPlayable};
-    ghost use Rattle.player.specs.Plays.{Plays, Reads};
+    ghost use Rattle.player.specs.Plays.{Plays, ReadsText};
 
     /// A player that has read nothing.
     pub fn new(alloc: Global) -> Result<Self, Memory>
@@ -66,7 +66,7 @@ impl Player {
     pub fn read(&mut self, alloc: Global, out: &mut String, text: &[u8]) -> Result<Progress, Memory>
         requires fits { Fits self.old.session }
         ensures reads { (h : List Entry) → Plays self.old h → string_bytes out.old ≡ trace h →
-            IfOk result (λ progress. Reads text.now h self.old.stage progress self.new (string_bytes out.new)) }
+            IfOk result (λ progress. ReadsText text.now h self.old.stage progress self.new (string_bytes out.new)) }
         ensures fits { OnOk result (Fits self.new.session) }
     {
         match parse_line(alloc, &mut self.stage, text) {
@@ -87,7 +87,9 @@ impl Player {
     fn carry(&mut self, alloc: Global, out: &mut String, line: &Line) -> Result<(), Memory>
         requires fits { Fits self.old.session }
         requires playable { IsPlayable line.now }
-        ensures carried { OnOk result ((events : _) × (reply : _) × Step (table_of (contents self.old.stage)) self.old.session line.now events reply self.new.session
+        ensures carried { OnOk result
+            ((events : _) × (reply : _)
+            × Step (table_of (contents self.old.stage)) self.old.session line.now events reply self.new.session
             × (string_bytes out.new ≡ string_bytes out.old ++ entry_text line.now events reply)) }
         ensures stage { OnOk result (self.new.stage ≡ self.old.stage) }
         ensures fits { OnOk result (Fits self.new.session) }

@@ -51,7 +51,8 @@ impl Receiver {
         sdu: Bytes,
     ) -> Result<Answer, Memory>
         requires { count < 2 ^ 63 }
-        ensures { IfOk result (λ answer. ReceivesCount key self.old.stored.items self.old.rx_deliv count sdu
+        ensures { IfOk result
+            (λ answer. ReceivesCount key self.old.stored.items self.old.rx_deliv count sdu
             self.new.stored.items self.new.rx_deliv answer.events answer.reply) }
     {
         if count < self.rx_deliv {
@@ -97,8 +98,12 @@ impl Receiver {
     fn store(&mut self, count: u64, sdu: Bytes) -> Result<(), Memory>
         requires { count < 2 ^ 63 }
         ensures this { OnOk result (stored_at self.new.stored.items count ≡ Some sdu) }
-        ensures others { OnOk result ((other : ℕ) → other ≢ count → stored_at self.new.stored.items other ≡ stored_at self.old.stored.items other) }
-        ensures err { OnErr result ((other : ℕ) → stored_at self.new.stored.items other ≡ stored_at self.old.stored.items other) }
+        ensures others { OnOk result
+            ((other : ℕ) → other ≢ count → stored_at self.new.stored.items other
+            ≡ stored_at self.old.stored.items other) }
+        ensures err { OnErr result
+            ((other : ℕ) → stored_at self.new.stored.items other
+            ≡ stored_at self.old.stored.items other) }
         ensures rx_deliv { self.new.rx_deliv ≡ self.old.rx_deliv }
     {
         while self.stored.len() as u64 <= count {
@@ -112,7 +117,8 @@ impl Receiver {
     fn take(&mut self, count: u64) -> Option<Bytes>
         ensures taken { result ≡ stored_at self.old.stored.items count }
         ensures left { stored_at self.new.stored.items count ≡ None }
-        ensures others { (other : ℕ) → other ≢ count → stored_at self.new.stored.items other ≡ stored_at self.old.stored.items other }
+        ensures others { (other : ℕ) → other ≢ count → stored_at self.new.stored.items other
+            ≡ stored_at self.old.stored.items other }
         ensures long { length self.new.stored.items ≡ length self.old.stored.items }
         ensures rx_deliv { self.new.rx_deliv ≡ self.old.rx_deliv }
     {

@@ -4,8 +4,8 @@ use crate::telling::{confirm, direct_size, key_of, say, tag_of, unheard};
 use crate::{Answer, Hearing, Receiver};
 use chain_model::BearerTable;
 use link_base::{
-    Bytes, Drb, Expired, Key, Memory, PortName, Remote, SduList, Side, SnSize, Timer, Way,
-    copy_bytes,
+    Bytes, COUNT_END, Drb, Expired, Key, LONGEST_PDCP_SDU, Memory, PortName, Remote, SduList, Side,
+    SnSize, Timer, Way, copy_bytes,
 };
 use pdcp_pdu::{PdcpView, encode_pdcp};
 use rlc_am_rx::{AmRx, Heard, Made};
@@ -21,10 +21,10 @@ use std::marker::Model;
 const MOST_UNCONFIRMED: u64 = 2048;
 
 /// The greatest number of SDUs, since COUNT ends below it.
-const MOST_SDUS: u64 = 4_294_967_295;
+const MOST_SDUS: u64 = COUNT_END as u64;
 
 /// The greatest number of bytes of a PDCP SDU (TS 38.323 clause 4.3.1).
-const LONGEST_SDU: usize = 9000;
+const LONGEST_SDU: usize = LONGEST_PDCP_SDU as usize;
 
 /// The greatest number of PDUs on the air.
 const MOST_ON_AIR: u64 = 16_384;
@@ -168,7 +168,9 @@ impl Session {
     fn submit(&mut self, key: Key, sdu: &[u8]) -> Result<Reply, Memory>
         requires fits { Fits self.old }
         requires way { key.way ≡ Way.Ul }
-        ensures { IfOk result (λ reply. Unless (submit_refusal self.old key sdu.now) self.old [] reply self.new (Accepts self.old key sdu.now [] reply self.new)) }
+        ensures { IfOk result
+            (λ reply. Unless (submit_refusal self.old key sdu.now) self.old [] reply self.new
+            (Accepts self.old key sdu.now [] reply self.new)) }
     {
         if let Some(refusal) = self.submit_refusal(key, sdu) {
             return Ok(refusal);
@@ -215,7 +217,9 @@ impl Session {
     /// One end may send a PDU of at most so many bytes.
     fn grant(&mut self, port: PortName, way: Way, n: u32) -> Result<Reply, Memory>
         requires { Fits self.old }
-        ensures { IfOk result (λ reply. Unless (grant_refusal self.old port) self.old [] reply self.new (Granted way self.old port n reply self.new)) }
+        ensures { IfOk result
+            (λ reply. Unless (grant_refusal self.old port) self.old [] reply self.new
+            (Granted way self.old port n reply self.new)) }
     {
         if let Some(refusal) = self.grant_refusal(port) {
             return Ok(refusal);
@@ -267,7 +271,9 @@ impl Session {
     ) -> Result<Reply, Memory>
         requires tickets { length self.old.air < 2 ^ 61 }
         requires room { on_air self.old < 16384 }
-        ensures { IfOk result (λ reply. (reply ≡ Reply.Air (length self.old.air + 1) status number bytes) × (self.new ≡ sent self.old port way status number bytes)) }
+        ensures { IfOk result
+            (λ reply. (reply ≡ Reply.Air (length self.old.air + 1) status number bytes)
+            × (self.new ≡ sent self.old port way status number bytes)) }
     {
         let copy = copy_bytes(self.alloc, bytes.as_slice())?;
         let pdu = Pdu {
@@ -302,7 +308,8 @@ impl Session {
     fn kind(&self, ticket: u64) -> Result<bool, Reply>
         requires { Fits self.now }
         ensures heard { IfOk result (IsHearable self.now ticket) }
-        ensures refused { IfErr result (λ reply. refusal_of self.now (pdu_of self.now ticket) ≡ Some reply) }
+        ensures refused { IfErr result
+            (λ reply. refusal_of self.now (pdu_of self.now ticket) ≡ Some reply) }
     {
         let Some(pdu) = self.air.get(ticket) else {
             return Err(Reply::NoAir);
@@ -317,7 +324,8 @@ impl Session {
     /// The PDU of a ticket is heard, where it is on the air and isn't stale.
     fn hear(&mut self, ticket: u64) -> Result<Hearing, Memory>
         requires fits { Fits self.old }
-        ensures { IfOk result (λ hearing. Hears self.old (pdu_of self.old ticket) hearing self.new) }
+        ensures { IfOk result
+            (λ hearing. Hears self.old (pdu_of self.old ticket) hearing self.new) }
     {
         match self.kind(ticket) {
             Err(refusal) => Ok(Hearing::Refused(refusal)),
@@ -391,7 +399,8 @@ impl Session {
     /// The PDU of a ticket comes, and stays on the air.
     fn repeat(&mut self, ticket: u64) -> Result<Answer, Memory>
         requires fits { Fits self.old }
-        ensures { IfOk result (λ a. HearsEntry self.old (pdu_of self.old ticket) a.events a.reply self.new (λ c. c)) }
+        ensures { IfOk result
+            (λ a. HearsEntry self.old (pdu_of self.old ticket) a.events a.reply self.new (λ c. c)) }
     {
         match self.hear(ticket)? {
             Hearing::Refused(refusal) => Ok(Answer::plain(self.alloc, refusal)),
@@ -403,7 +412,9 @@ impl Session {
     fn deliver(&mut self, ticket: u64) -> Result<Answer, Memory>
         requires fits { Fits self.old }
         requires ticket { 1 ≤ ticket }
-        ensures { IfOk result (λ a. HearsEntry self.old (pdu_of self.old ticket) a.events a.reply self.new (without ticket)) }
+        ensures { IfOk result
+            (λ a. HearsEntry self.old (pdu_of self.old ticket) a.events a.reply self.new
+            (without ticket)) }
     {
         match self.hear(ticket)? {
             Hearing::Refused(refusal) => Ok(Answer::plain(self.alloc, refusal)),
@@ -439,7 +450,9 @@ impl Session {
 
     /// A timer of a port is to run out.
     fn expire(&mut self, port: PortName, side: Side, timer: Timer) -> Result<Answer, Memory>
-        ensures { IfOk result (λ a. Unless (expire_refusal self.old port) self.old a.events a.reply self.new (Expires self.old side timer a.events a.reply self.new)) }
+        ensures { IfOk result
+            (λ a. Unless (expire_refusal self.old port) self.old a.events a.reply self.new
+            (Expires self.old side timer a.events a.reply self.new)) }
     {
         if !self.has_port(port) {
             return Ok(Answer::plain(self.alloc, Reply::NoPort));

@@ -1,20 +1,19 @@
 // The top call: all that the program does, over a source and a sink.
-ghost use Rattle.std.specs.Prelude.{◌≡◌, ◌≢◌, ◌⊎◌, ℕ, List, false, map, IfOk, IsErrOf, string_bytes};
+ghost use Rattle.std.specs.Prelude.{◌≡◌, ◌≢◌, ◌∷◌, [], codes, false, map, IfOk, IsErrOf, string_bytes};
 ghost use Rattle.std.specs.Io.KnownBytes.{Keeps, Appends};
-ghost use Rattle.link_io.specs.Causes.{Rose, IsUsed};
+ghost use Rattle.link_io.specs.Causes.{IsCounted, IsUsed};
 ghost use Rattle.link_io.specs.Bytes.{IsAsTold, AppendsFront};
-ghost use Rattle.pdu_text.specs.declared.form.Form.{Form as AForm};
-ghost use Rattle.player.specs.Commands.{IsPlay, IsShow, IsOther};
-ghost use Rattle.player.specs.Outcome.{IsPlayed, IsCutOff, IsShown, IsShownInPart, status_of, usage_text};
-ghost use Rattle.player.specs.declared.play.Ending.{Ending as AnEnding};
+ghost use Rattle.player.specs.Outcome.{IsPlayed, IsPlayedInPart, IsCutOff, usage_text};
+ghost use Rattle.player.specs.Serves.{Serves};
 
 use crate::command::command_of;
 use crate::{Command, Ending, play_script, show};
 use link_io::{ReadFault, Sink, Source, WriteFault, read_up_to, write_all};
+use script_text::LONGEST_SCRIPT;
 use std::alloc::Global;
 
-/// One byte more than the greatest length of a script.
-const MOST_READ: usize = 16_777_217;
+// One byte more than the greatest length of a script.
+const MOST_READ: usize = LONGEST_SCRIPT + 1;
 
 const USAGE: &[u8] = b"usage: relayplay play | work | show FORM HEX | load N\n";
 
@@ -34,12 +33,22 @@ fn run_through<S: Source, K: Sink>(
     src: &mut S,
     out: &mut K,
 ) -> Result<Ending, RunFault>
-    ensures played { IfOk result (IsPlayed (S.left src.old) (S.left src.new) (K.written out.old) (K.written out.new)) }
-    ensures source { IsErrOf result RunFault.Source → Rose (S.faults src.old) (S.faults src.new) × Keeps (K.written out.old) (K.written out.new) }
-    ensures sink { IsErrOf result RunFault.Sink → Rose (K.faults out.old) (K.faults out.new) × IsCutOff (S.left src.old) (S.left src.new) (K.written out.old) (K.written out.new) }
-    ensures memory { IsErrOf result RunFault.Memory → Keeps (K.written out.old) (K.written out.new) ⊎ IsCutOff (S.left src.old) (S.left src.new) (K.written out.old) (K.written out.new) }
-    ensures told { IsAsTold (S.left src.old) (S.left src.new) × IsAsTold (K.written out.old) (K.written out.new) }
-    ensures used { IsUsed S.faults S.can_fail src.old src.new × IsUsed K.faults K.can_fail out.old out.new }
+    ensures played { IfOk result (IsPlayed (S.left src.old) (S.left src.new)
+        (K.written out.old) (K.written out.new)) }
+    ensures source { IsErrOf result RunFault.Source →
+        Keeps (K.written out.old) (K.written out.new) }
+    ensures sink { IsErrOf result RunFault.Sink → IsCutOff (S.left src.old) (S.left src.new)
+        (K.written out.old) (K.written out.new) }
+    ensures memory { IsErrOf result RunFault.Memory → IsPlayedInPart
+        (S.left src.old) (S.left src.new) (K.written out.old) (K.written out.new) }
+    ensures source_told { IsCounted (IsErrOf result RunFault.Source)
+        (S.faults src.old) (S.faults src.new) }
+    ensures sink_told { IsCounted (IsErrOf result RunFault.Sink)
+        (K.faults out.old) (K.faults out.new) }
+    ensures told { IsAsTold (S.left src.old) (S.left src.new)
+        × IsAsTold (K.written out.old) (K.written out.new) }
+    ensures used { IsUsed S.faults S.can_fail src.old src.new
+        × IsUsed K.faults K.can_fail out.old out.new }
     ensures sure_source { S.can_fail src.old ≡ false → IsErrOf result RunFault.Source → ⊥ }
     ensures sure_sink { K.can_fail out.old ≡ false → IsErrOf result RunFault.Sink → ⊥ }
 {
@@ -59,17 +68,10 @@ fn run_through<S: Source, K: Sink>(
     }
 }
 
-/// Runs the script on the source, and writes its trace to the sink. The answer is the status, as `top` gives it.
+/// Runs the script on the source, and writes its trace to the sink: all that `top` does for the word `play`.
 pub fn run<S: Source, K: Sink>(alloc: Global, src: &mut S, out: &mut K) -> u8
-    ensures played { result ≢ 3 → result ≢ 4 → result ≢ 5 → (ending : AnEnding) × (result ≡ status_of ending)
-        × IsPlayed (S.left src.old) (S.left src.new) (K.written out.old) (K.written out.new) ending }
-    ensures source { result ≡ 3 → Rose (S.faults src.old) (S.faults src.new) × Keeps (K.written out.old) (K.written out.new) }
-    ensures sink { result ≡ 4 → Rose (K.faults out.old) (K.faults out.new) × IsCutOff (S.left src.old) (S.left src.new) (K.written out.old) (K.written out.new) }
-    ensures memory { result ≡ 5 → Keeps (K.written out.old) (K.written out.new) ⊎ IsCutOff (S.left src.old) (S.left src.new) (K.written out.old) (K.written out.new) }
-    ensures told { IsAsTold (S.left src.old) (S.left src.new) × IsAsTold (K.written out.old) (K.written out.new) }
-    ensures used { IsUsed S.faults S.can_fail src.old src.new × IsUsed K.faults K.can_fail out.old out.new }
-    ensures sure_source { S.can_fail src.old ≡ false → result ≢ 3 }
-    ensures sure_sink { K.can_fail out.old ≡ false → result ≢ 4 }
+    ensures { Serves S.left S.faults S.can_fail K.written K.faults K.can_fail
+        (codes "play" ∷ []) result src.old src.new out.old out.new }
 {
     match run_through(alloc, src, out) {
         Ok(Ending::Done) => 0,
@@ -84,9 +86,10 @@ pub fn run<S: Source, K: Sink>(alloc: Global, src: &mut S, out: &mut K) -> u8
 
 /// Writes the usage line.
 fn usage<K: Sink>(out: &mut K) -> u8
-    ensures two { result ≢ 4 → result ≢ 5 → (result ≡ 2) × Appends (K.written out.old) (K.written out.new) usage_text }
+    ensures two { result ≢ 4 → result ≢ 5 → (result ≡ 2)
+        × Appends (K.written out.old) (K.written out.new) usage_text }
     ensures front { AppendsFront (K.written out.old) (K.written out.new) usage_text }
-    ensures sink { result ≡ 4 → Rose (K.faults out.old) (K.faults out.new) }
+    ensures sink_told { IsCounted (result ≡ 4) (K.faults out.old) (K.faults out.new) }
     ensures told { IsAsTold (K.written out.old) (K.written out.new) }
     ensures used { IsUsed K.faults K.can_fail out.old out.new }
     ensures sure_sink { K.can_fail out.old ≡ false → result ≢ 4 }
@@ -118,27 +121,12 @@ fn usage<K: Sink>(out: &mut K) -> u8
 /// | 6 | a line ends past byte 16,777,216 | `too long` |
 /// | 7 | the bytes are no PDU of the form | `refused FAULT` |
 ///
+/// Only `play` reads. A fault of the source is told by 3 and one of the sink by 4, and by no other status.
+///
 /// A script of lines that are carried out ends with status 0, where no read, no write and no wish for memory fails.
 pub fn top<S: Source, K: Sink>(alloc: Global, words: &[String], src: &mut S, out: &mut K) -> u8
-    // The words decide between a run, the fields of a PDU, and the usage line.
-    ensures usage { result ≡ 2 → IsOther (map string_bytes words.now) × Appends (K.written out.old) (K.written out.new) usage_text }
-    ensures other_words { IsOther (map string_bytes words.now) → (result ≡ 2) ⊎ (((result ≡ 4) ⊎ (result ≡ 5)) × AppendsFront (K.written out.old) (K.written out.new) usage_text) }
-    // What was read was run, and its text was written.
-    ensures played { IsPlay (map string_bytes words.now) → result ≢ 3 → result ≢ 4 → result ≢ 5 → (ending : AnEnding) × (result ≡ status_of ending)
-        × IsPlayed (S.left src.old) (S.left src.new) (K.written out.old) (K.written out.new) ending }
-    // The fields of the PDU were written, or why the bytes are none.
-    ensures shown { (form : AForm) (bytes : List ℕ) → IsShow (map string_bytes words.now) form bytes → result ≢ 4 → result ≢ 5 → IsShown form bytes result (K.written out.old) (K.written out.new) }
-    ensures shown_in_part { (form : AForm) (bytes : List ℕ) → IsShow (map string_bytes words.now) form bytes → (result ≡ 4) ⊎ (result ≡ 5) → IsShownInPart form bytes (K.written out.old) (K.written out.new) }
-    // A fault of source or sink comes only where its count rose.
-    ensures source { result ≡ 3 → Rose (S.faults src.old) (S.faults src.new) × Keeps (K.written out.old) (K.written out.new) }
-    ensures sink { result ≡ 4 → Rose (K.faults out.old) (K.faults out.new) }
-    ensures cut_off { IsPlay (map string_bytes words.now) → result ≡ 4 → IsCutOff (S.left src.old) (S.left src.new) (K.written out.old) (K.written out.new) }
-    ensures memory { IsPlay (map string_bytes words.now) → result ≡ 5 → Keeps (K.written out.old) (K.written out.new)
-        ⊎ IsCutOff (S.left src.old) (S.left src.new) (K.written out.old) (K.written out.new) }
-    ensures told { IsAsTold (S.left src.old) (S.left src.new) × IsAsTold (K.written out.old) (K.written out.new) }
-    ensures used { IsUsed S.faults S.can_fail src.old src.new × IsUsed K.faults K.can_fail out.old out.new }
-    ensures sure_source { S.can_fail src.old ≡ false → result ≢ 3 }
-    ensures sure_sink { K.can_fail out.old ≡ false → result ≢ 4 }
+    ensures { Serves S.left S.faults S.can_fail K.written K.faults K.can_fail
+        (map string_bytes words.now) result src.old src.new out.old out.new }
 {
     match command_of(alloc, words) {
         Ok(Command::Play) => run(alloc, src, out),

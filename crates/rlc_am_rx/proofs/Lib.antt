@@ -1,11 +1,12 @@
-pub mod Entered
-pub mod Got
+pub mod Copied
+pub mod Entries
 pub mod Hearing
 pub mod Held
 pub mod Numbers
+pub mod Placed
 pub mod Placing
+pub mod Repeats
 pub mod Runs
-pub mod Seen
 pub mod Soundness
-pub mod Timer
+pub mod State
 pub mod Writing

@@ -1,5 +1,6 @@
 -- Parts of hearing a data PDU (TS 38.322 clause 5.2.3.2.2).
-use Rattle.std.specs.Prelude.{◌≡◌, ℕ, Bool, List, Option, Some, None}
+use Rattle.std.specs.Prelude.{◌≡◌, ℕ, ◌<◌, ◌≤◌, Bool, List, length, Option, Some, None}
+use Rattle.link_base.specs.declared.limits.TheConstants.{LONGEST_RLC_SDU}
 use Rattle.rlc_pdu.specs.Amd.{Amd}
 use Rattle.rlc_model.specs.Rx.{Rx, Stores, Completes}
 use Rattle.rlc_model.specs.declared.receiver.Heard.{Heard}
@@ -21,3 +22,11 @@ PlacesAs old x v (Complete number sdu) new = (number ≡ x) × Completes old x v
 PlacesAs old x v Repeat new = ⊥
 PlacesAs old x v Outside new = ⊥
 PlacesAs old x v Conflict new = ⊥
+
+-- an SDU that was made complete has a byte, and isn't longer than the longest SDU
+abbrev pub HasSduLength : Heard → Type 0
+HasSduLength (Complete number sdu) = (0 < length sdu) × (length sdu ≤ LONGEST_RLC_SDU)
+HasSduLength Stored = Unit {0}
+HasSduLength Repeat = Unit {0}
+HasSduLength Outside = Unit {0}
+HasSduLength Conflict = Unit {0}

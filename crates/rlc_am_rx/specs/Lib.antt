@@ -1,9 +1,7 @@
 pub mod Assembly
-pub mod Entries
+pub mod Elements
 pub mod Hearing
-pub mod Places
-pub mod Polls
-pub mod Received
+pub mod Polling
+pub mod Reassembly
 pub mod Receiver
-pub mod Report
-pub mod Seen
+pub mod StatusMaking

@@ -2,12 +2,10 @@
 #![tactic(auto)]
 
 mod assembly;
-mod entries;
-mod places;
-mod polls;
-mod received;
+mod polling;
+mod reassembly;
 mod receiver;
-mod report;
+mod status;
 
 pub use receiver::AmRx;
 pub use rlc_model::{Heard, Made};

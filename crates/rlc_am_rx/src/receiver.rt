@@ -1,27 +1,31 @@
 // The receiving side of an RLC entity in acknowledged mode.
-ghost use Rattle.std.specs.Prelude.{◌≡◌, ◌≢◌, true, ◌<◌, ◌≤◌, ◌+◌, ◌^◌, ◌||◌, length, IfOk, OnErr};
+ghost use Rattle.std.specs.Prelude.{◌≡◌, ◌≢◌, true, ◌<◌, ◌≤◌, ◌+◌, ◌^◌, ◌||◌, [], None, IfOk, OnOk, OnErr, IfSome, IfNone};
 ghost use Rattle.std.specs.Option.{is_some};
 ghost use Rattle.std.specs.Bool.{MatchBool};
 ghost use Rattle.link_base.specs.SequenceNumbers.{Near};
-ghost use Rattle.rlc_pdu.specs.Amd.{amd_of, Fits};
+ghost use Rattle.rlc_pdu.specs.Amd.{amd_of, AmdFits};
+ghost use Rattle.rlc_law.specs.Receiver.{IsSound};
 ghost use Rattle.rlc_model.specs.Calls.{HearsAs, ExpiresReassemblyAs, ExpiresProhibitAs};
-ghost use Rattle.rlc_model.specs.Made.{IsMissing, Makes, Writes};
+ghost use Rattle.rlc_model.specs.Made.{prohibited, HoldsNone, HoldsSome, IsMissing, IsTouched, Makes};
 ghost use Rattle.rlc_model.specs.Numbers.{IsFirst};
-ghost use Rattle.rlc_model.specs.Pdu.{end_of};
-ghost use Rattle.rlc_model.specs.Rx.{empty_rx, got, rx_next, status_due, IsRepeat, IsConflict};
-ghost use Rattle.rlc_model.specs.Rx.Got.{Done};
-ghost use Rattle.rlc_am_rx.specs.Report.{reported, AddsGroup, IsReportOf};
-ghost use Rattle.rlc_am_rx.specs.Hearing.{heard_of, with_triggered, PlacesAs};
+ghost use Rattle.rlc_model.specs.Rx.{empty_rx, got, rx_next, status_due, IsRepeat, IsConflict, IsToBePlaced};
+ghost use Rattle.rlc_model.specs.Rx.Got.{Done, Part};
+ghost use Rattle.rlc_am_rx.specs.Elements.{AddsGaps, PlacesFit};
+ghost use Rattle.rlc_am_rx.specs.Reassembly.{got_of};
+ghost use Rattle.rlc_am_rx.specs.StatusMaking.{left_by, IsTrueStatusOf, IsMissingRun, NeedsElements};
+ghost use Rattle.rlc_am_rx.specs.Hearing.{heard_of, with_triggered, HasSduLength, PlacesAs};
 
-use crate::assembly::end_of;
-use crate::polls::DelayedPolls;
-use crate::received::Received;
-use crate::report::{Written, left_behind, range_of, sn_of};
+use crate::polling::DelayedPolls;
+use crate::reassembly::{
+    Entry, first_open, grow, has_gap, pop_done, status_after, trigger_after, trigger_from,
+};
+use crate::status::sn_of;
 use link_base::{Bytes, Expired, Memory, SnSize, near};
 use rlc_model::{Heard, Made};
 use rlc_pdu::AmdView;
-use rlc_status::{Nack, NackList, Status};
+use rlc_status::{Nack, Status};
 use std::alloc::Global;
+use std::collections::VecDeque;
 use std::marker::Model;
 
 /// The receiving side of an RLC entity in acknowledged mode (TS 38.322 clause 5.2.3.2). It speaks of numbers, which are
@@ -30,14 +34,16 @@ use std::marker::Model;
 pub struct AmRx {
     alloc: Global,
     size: SnSize,
-    received: Received,
-    highest_status: u64,
-    // RX_Next_Status_Trigger, while t-Reassembly runs.
-    trigger: Option<u64>,
+    rx_next: u64,
+    rx_next_highest: u64,
+    rx_highest_status: u64,
+    // It is there while t-Reassembly runs.
+    rx_next_status_trigger: Option<u64>,
+    // What is got of RX_Next and the numbers behind it; of those from RX_Next_Highest on it is nothing.
+    entries: VecDeque<Entry>,
     status_triggered: bool,
-    polls: DelayedPolls,
-    // t-StatusProhibit runs.
-    prohibit: bool,
+    delayed_polls: DelayedPolls,
+    status_prohibit_runs: bool,
 }
 
 impl Model for AmRx {
@@ -45,9 +51,9 @@ impl Model for AmRx {
 
     ghost Value = { Rx };
 
-    ghost use Rattle.rlc_am_rx.specs.Receiver.{rx_of, IsReceiver};
+    ghost use Rattle.rlc_am_rx.specs.Receiver.{receiver_of, IsReceiver};
 
-    ghost view = { rx_of };
+    ghost view = { receiver_of };
 
     ghost invariant = { IsReceiver };
 }
@@ -70,24 +76,29 @@ impl AmRx {
         Ok(AmRx {
             alloc,
             size,
-            received: Received::new(alloc),
-            highest_status: 0,
-            trigger: None,
+            rx_next: 0,
+            rx_next_highest: 0,
+            rx_highest_status: 0,
+            rx_next_status_trigger: None,
+            entries: VecDeque::new(alloc),
             status_triggered: false,
-            polls: DelayedPolls::new(alloc),
-            prohibit: false,
+            delayed_polls: DelayedPolls::new(alloc),
+            status_prohibit_runs: false,
         })
     }
 
     /// Hears a data PDU that the format of this receiver's size can hold, where RX_Next is at most 2^62 (TS 38.322 clause
     /// 5.2.3.2.2).
     ///
-    /// An `Err` is want of memory, and the receiver is as it was.
+    /// An SDU that it makes complete has at least one byte, and no more than the longest SDU. An `Err` is want of memory. It
+    /// comes only where the PDU is to be placed, and the receiver is as it was.
     pub fn hear(&mut self, pdu: &AmdView<'_>) -> Result<Heard, Memory>
-        requires fits { Fits self.old.size (amd_of pdu.now) }
+        requires fits { AmdFits self.old.size (amd_of pdu.now) }
         requires small { rx_next self.old ≤ 2 ^ 62 }
         ensures ok { IfOk result (λ answer. HearsAs self.old pdu.now answer self.new) }
+        ensures length { IfOk result HasSduLength }
         ensures err { OnErr result (self.new ≡ self.old) }
+        ensures memory { OnErr result (IsToBePlaced self.old (amd_of pdu.now)) }
     {
         let Some(number) = near(pdu.sn, self.next(), self.size()) else {
             self.poll_at_once(pdu.poll);
@@ -104,26 +115,120 @@ impl AmRx {
         self.place(number, pdu)
     }
 
+    fn poll_at_once(&mut self, poll: bool)
+        ensures { self.new ≡ with_triggered self.old (self.old.status_triggered || poll) }
+    {
+        self.status_triggered |= poll;
+    }
+
+    // What is got of a number from RX_Next on; None where it has no entry, and nothing is.
+    fn entry(&self, number: u64) -> Option<&Entry>
+        requires { rx_next self.now ≤ number }
+        ensures some { IfSome result (λ entry. got self.now number ≡ got_of entry.now) }
+        ensures none { IfNone result (got self.now number ≡ Part [] None) }
+    {
+        self.entries.get((number - self.rx_next) as usize)
+    }
+
     // Whether a PDU of this number brings nothing new.
     fn is_repeat(&self, number: u64, pdu: &AmdView<'_>) -> bool
-        requires some { 0 < length pdu.now.body.now }
-        requires small { end_of (amd_of pdu.now) < 2 ^ 63 }
-        ensures { MatchBool result (IsRepeat self.now number (amd_of pdu.now)) (IsRepeat self.now number (amd_of pdu.now) → ⊥) }
+        requires { AmdFits self.now.size (amd_of pdu.now) }
+        ensures { MatchBool result (IsRepeat self.now number (amd_of pdu.now))
+            (IsRepeat self.now number (amd_of pdu.now) → ⊥) }
     {
-        if number < self.received.base() {
+        if number < self.rx_next {
             return true;
         }
-        self.received.is_repeat(number, pdu)
+        let Some(entry) = self.entry(number) else {
+            return false;
+        };
+        match entry {
+            Entry::Untouched => false,
+            Entry::Partly(assembly) => assembly.is_repeat(pdu),
+            Entry::Done => true,
+        }
     }
 
     // Whether a PDU of this number disagrees with what is held about its SDU's end.
     fn conflicts(&self, number: u64, pdu: &AmdView<'_>) -> bool
         requires from { rx_next self.now ≤ number }
-        requires small { end_of (amd_of pdu.now) < 2 ^ 63 }
+        requires fits { AmdFits self.now.size (amd_of pdu.now) }
         ensures { MatchBool result (IsConflict (got self.now number) (amd_of pdu.now))
             (IsConflict (got self.now number) (amd_of pdu.now) → ⊥) }
     {
-        self.received.conflicts(number, pdu)
+        match self.entry(number) {
+            Some(Entry::Partly(assembly)) => assembly.conflicts(pdu),
+            _ => false,
+        }
+    }
+
+    // Places a PDU of this number. All memory is taken before anything changes.
+    fn place(&mut self, number: u64, pdu: &AmdView<'_>) -> Result<Heard, Memory>
+        requires fits { AmdFits self.old.size (amd_of pdu.now) }
+        requires near { Near self.old.size pdu.now.sn (rx_next self.old) number }
+        requires base { rx_next self.old ≤ 2 ^ 62 }
+        requires news { IsRepeat self.old number (amd_of pdu.now) → ⊥ }
+        requires agrees { IsConflict (got self.old number) (amd_of pdu.now) → ⊥ }
+        ensures ok { IfOk result
+            (λ answer. PlacesAs self.old number (amd_of pdu.now) answer self.new) }
+        ensures length { IfOk result HasSduLength }
+        ensures err { OnErr result (self.new ≡ self.old) }
+    {
+        let at = (number - self.rx_next) as usize;
+        grow(&mut self.entries, at + 1)?;
+        let fresh = self.delayed_polls.add_if(pdu.poll, number)?;
+        let Ok(sdu) = self.entries[at].place(self.alloc, pdu, self.size) else {
+            self.delayed_polls.take_back(fresh, number);
+            return Err(Memory);
+        };
+        self.rx_next_highest = self.rx_next_highest.max(number + 1);
+        self.rx_highest_status = status_after(
+            &self.entries,
+            self.rx_next,
+            self.rx_highest_status,
+            number,
+            sdu.is_some(),
+        );
+        self.rx_next += pop_done(&mut self.entries) as u64;
+        self.rx_next_status_trigger = trigger_after(
+            self.rx_next_status_trigger,
+            self.rx_next,
+            self.rx_next_highest,
+            self.size,
+            has_gap(&self.entries, 0),
+        );
+        self.status_triggered |= self.delayed_polls.take_below(self.rx_highest_status);
+        Ok(answer_of(number, sdu))
+    }
+
+    /// t-Reassembly runs out (TS 38.322 clause 5.2.3.2.4).
+    pub fn expire_reassembly(&mut self) -> Expired
+        ensures { ExpiresReassemblyAs self.old result self.new }
+    {
+        let Some(trigger) = self.rx_next_status_trigger else {
+            return Expired::Stopped;
+        };
+        let at = first_open(&self.entries, (trigger - self.rx_next) as usize);
+        self.rx_highest_status = self.rx_next + at as u64;
+        self.rx_next_status_trigger = trigger_from(
+            self.rx_next_highest,
+            self.rx_highest_status,
+            has_gap(&self.entries, at),
+        );
+        self.delayed_polls.take_below(self.rx_highest_status);
+        self.status_triggered = true;
+        Expired::Done
+    }
+
+    /// t-StatusProhibit runs out (TS 38.322 clause 5.3.4).
+    pub fn expire_prohibit(&mut self) -> Expired
+        ensures { ExpiresProhibitAs self.old result self.new }
+    {
+        if !self.status_prohibit_runs {
+            return Expired::Stopped;
+        }
+        self.status_prohibit_runs = false;
+        Expired::Done
     }
 
     /// How many bits its sequence numbers have.
@@ -133,86 +238,34 @@ impl AmRx {
         self.size
     }
 
-    fn poll_at_once(&mut self, poll: bool)
-        ensures { self.new ≡ with_triggered self.old (self.old.status_triggered || poll) }
-    {
-        self.status_triggered |= poll;
-    }
-
-    // Places a PDU of this number. All memory is taken before anything changes.
-    fn place(&mut self, number: u64, pdu: &AmdView<'_>) -> Result<Heard, Memory>
-        requires fits { Fits self.old.size (amd_of pdu.now) }
-        requires near { Near self.old.size pdu.now.sn (rx_next self.old) number }
-        requires from { rx_next self.old ≤ number }
-        requires base { rx_next self.old ≤ 2 ^ 62 }
-        requires news { IsRepeat self.old number (amd_of pdu.now) → ⊥ }
-        requires agrees { IsConflict (got self.old number) (amd_of pdu.now) → ⊥ }
-        ensures ok { IfOk result (λ answer. PlacesAs self.old number (amd_of pdu.now) answer self.new) }
-        ensures err { OnErr result (self.new ≡ self.old) }
-    {
-        self.received.reserve(number, end_of(pdu))?;
-        self.polls.add_if(pdu.poll, number)?;
-        let sdu = self.received.place(number, pdu);
-        self.highest_status = self
-            .received
-            .status_after(self.highest_status, number, sdu.is_some());
-        self.received.pop_done();
-        self.trigger = self.received.trigger_after(self.trigger, self.size);
-        self.status_triggered |= self.polls.take_below(self.highest_status);
-        Ok(answer_of(number, sdu))
-    }
-
-    /// t-Reassembly runs out (TS 38.322 clause 5.2.3.2.4).
-    pub fn expire_reassembly(&mut self) -> Expired
-        ensures { ExpiresReassemblyAs self.old result self.new }
-    {
-        let Some(trigger) = self.trigger else {
-            return Expired::Stopped;
-        };
-        self.highest_status = self.received.first_open(trigger);
-        self.trigger = self.received.trigger_from(self.highest_status);
-        self.polls.take_below(self.highest_status);
-        self.status_triggered = true;
-        Expired::Done
-    }
-
-    /// t-StatusProhibit runs out (TS 38.322 clause 5.3.4).
-    pub fn expire_prohibit(&mut self) -> Expired
-        ensures { ExpiresProhibitAs self.old result self.new }
-    {
-        if !self.prohibit {
-            return Expired::Stopped;
-        }
-        self.prohibit = false;
-        Expired::Done
-    }
-
     /// Whether a STATUS is triggered and t-StatusProhibit isn't running (TS 38.322 clause 5.3.4).
     pub fn status_due(&self) -> bool
         ensures { result ≡ status_due self.now }
     {
-        self.status_triggered && !self.prohibit
+        self.status_triggered && !self.status_prohibit_runs
     }
 
     /// RX_Next: the first number whose SDU isn't complete (TS 38.322 clause 7.1).
     pub fn next(&self) -> u64
         ensures { result ≡ rx_next self.now }
     {
-        self.received.base()
+        self.rx_next
     }
 
-    /// RX_Highest_Status: the highest number that the ACK_SN of a STATUS can stand for (TS 38.322 clause 7.1).
+    /// RX_Highest_Status: the highest number that the ACK_SN of a STATUS can stand for (TS 38.322 clause 7.1). It isn't
+    /// complete, and a receiver is sound whatever it heard.
     pub fn highest_status(&self) -> u64
-        ensures { result ≡ self.now.rx_highest_status }
+        ensures value { result ≡ self.now.rx_highest_status }
+        ensures sound { IsSound self.now }
     {
-        self.highest_status
+        self.rx_highest_status
     }
 
     /// Whether t-Reassembly runs (TS 38.322 clause 7.3).
     pub fn reasm_running(&self) -> bool
         ensures { result ≡ is_some self.now.rx_next_status_trigger }
     {
-        self.trigger.is_some()
+        self.rx_next_status_trigger.is_some()
     }
 
     /// Whether a STATUS is triggered, prohibited or not (TS 38.322 clause 5.3.4).
@@ -222,97 +275,118 @@ impl AmRx {
         self.status_triggered
     }
 
-    /// Makes a STATUS PDU of at most `n` octets, where one is due. It names the missing numbers below RX_Highest_Status
-    /// in order, as far as there is room, and t-StatusProhibit starts (TS 38.322 clause 5.3.4).
+    /// Makes a STATUS PDU of at most `n` octets, where one is due: what `write_status` writes, and t-StatusProhibit starts
+    /// where that is one (TS 38.322 clause 5.3.4).
     ///
-    /// The time is in proportion to the numbers from RX_Next up to RX_Highest_Status and to the places up to the last one
-    /// held of each that is missing. An `Err` is want of memory, and the receiver is as it was.
+    /// An `Err` is want of memory, as of `write_status`, and the receiver is as it was.
     pub fn make_status(&mut self, n: u32) -> Result<Made, Memory>
         requires { status_due self.old ≡ true }
         ensures ok { IfOk result (λ made. Makes self.old n made self.new) }
-        ensures truth { IfOk result (λ made. IsReportOf self.old n made) }
+        ensures truth { IfOk result (λ made. IsTrueStatusOf self.old n made) }
         ensures err { OnErr result (self.new ≡ self.old) }
+        ensures memory { OnErr result (NeedsElements self.old n) }
+    {
+        let made = self.write_status(n)?;
+        if let Made::Full { .. } = &made {
+            self.begin_prohibit();
+        }
+        Ok(made)
+    }
+
+    /// Writes a STATUS PDU of at most `n` octets, where one is due. It names the missing numbers below RX_Highest_Status in
+    /// order, as far as there is room. Nothing changes; once it is sent, `begin_prohibit` is to be called (TS 38.322 clause
+    /// 5.3.4).
+    ///
+    /// The time is in proportion to the numbers from RX_Next up to RX_Highest_Status and to the elements written. An `Err`
+    /// is want of memory, and comes only where at least 3 octets are allowed and a number is missing.
+    pub fn write_status(&self, n: u32) -> Result<Made, Memory>
+        requires { status_due self.now ≡ true }
+        ensures ok { IfOk result (λ made. Makes self.now n made (left_by made self.now)) }
+        ensures truth { IfOk result (λ made. IsTrueStatusOf self.now n made) }
+        ensures memory { OnErr result (NeedsElements self.now n) }
     {
         let Some(octets) = n.checked_sub(3) else {
             return Ok(Made::Small { need: 3 });
         };
-        let written = self.write(octets)?;
+        let written = self.write(self.alloc, octets)?;
         let status = Status {
             ack: sn_of(self.size, written.ack),
             nacks: written.nacks,
         };
-        self.start_prohibit();
         Ok(Made::Full {
             status,
             ack: written.ack,
         })
     }
 
-    // Clears the trigger of a STATUS and starts t-StatusProhibit.
-    fn start_prohibit(&mut self)
-        ensures { self.new ≡ reported self.old }
+    /// A STATUS was sent: none is triggered any more, and t-StatusProhibit starts (TS 38.322 clause 5.3.4).
+    pub fn begin_prohibit(&mut self)
+        ensures { self.new ≡ prohibited self.old }
     {
         self.status_triggered = false;
-        self.prohibit = true;
-    }
-
-    // Writes the elements of the missing numbers, as far as they have at most so many octets.
-    fn write(&self, octets: u32) -> Result<Written, Memory>
-        ensures { IfOk result (λ written. Writes self.now octets (rx_next self.now) written.nacks written.ack) }
-    {
-        let mut nacks = Vec::new(self.alloc());
-        let mut left = octets;
-        let mut number = self.next();
-        while number < self.highest_status() {
-            let len = nacks.len();
-            let end = self.add_group(&mut nacks, number)?;
-            let Some(rest) = left_behind(self.size(), &nacks[len..], left) else {
-                nacks.truncate(len);
-                return Ok(Written {
-                    nacks: NackList::from_vec(nacks),
-                    ack: number,
-                });
-            };
-            left = rest;
-            number = self.first_open(end);
-        }
-        Ok(Written {
-            nacks: NackList::from_vec(nacks),
-            ack: self.highest_status(),
-        })
-    }
-
-    // Adds the elements that speak of a missing number, and of those behind it that share its element; answers the number
-    // behind these.
-    fn add_group(&self, nacks: &mut Vec<Nack>, number: u64) -> Result<u64, Memory>
-        requires from { rx_next self.now ≤ number }
-        requires missing { IsMissing self.now number }
-        ensures { IfOk result (λ end. AddsGroup self.now number end nacks.old.items nacks.new.items) }
-    {
-        let limit = self.highest_status();
-        let sn = sn_of(self.size, number);
-        if self.received.holds_some(number) {
-            self.received.add_gaps(number, nacks, sn)?;
-            return Ok(number + 1);
-        }
-        let end = self.received.run_end(number, limit);
-        nacks.push(Nack {
-            sn,
-            part: None,
-            range: range_of(end - number),
-        })?;
-        Ok(end)
-    }
-
-    fn alloc(&self) -> Global {
-        self.alloc
+        self.status_prohibit_runs = true;
     }
 
     // The first number from this one on whose SDU isn't complete.
-    fn first_open(&self, number: u64) -> u64
+    pub(crate) fn first_open(&self, number: u64) -> u64
         requires { rx_next self.now ≤ number }
         ensures { IsFirst (λ n. got self.now n ≢ Done) number result }
     {
-        self.received.first_open(number)
+        self.rx_next + first_open(&self.entries, (number - self.rx_next) as usize) as u64
+    }
+
+    // Whether a byte of the number's SDU is held.
+    pub(crate) fn holds_some(&self, number: u64) -> bool
+        requires { rx_next self.now ≤ number }
+        ensures { MatchBool result (HoldsSome (got self.now number))
+            (HoldsNone (got self.now number)) }
+    {
+        match self.entry(number) {
+            Some(Entry::Partly(assembly)) => assembly.holds_some(),
+            _ => false,
+        }
+    }
+
+    // Adds an element for each gap of the number's SDU.
+    pub(crate) fn add_gaps(&self, number: u64, nacks: &mut Vec<Nack>, sn: u32) -> Result<(), Memory>
+        requires from { rx_next self.now ≤ number }
+        requires some { HoldsSome (got self.now number) }
+        requires fit { PlacesFit (got self.now number) }
+        ensures { OnOk result (AddsGaps sn (got self.now number) nacks.old.items nacks.new.items) }
+    {
+        match self.entry(number) {
+            Some(Entry::Partly(assembly)) => assembly.add_gaps(nacks, sn),
+            _ => unreachable!(),
+        }
+    }
+
+    // Whether the number's SDU is complete, or a byte of it is held.
+    fn is_touched(&self, number: u64) -> bool
+        requires { rx_next self.now ≤ number }
+        ensures { MatchBool result (IsTouched (got self.now number))
+            (IsTouched (got self.now number) → ⊥) }
+    {
+        match self.entry(number) {
+            Some(Entry::Partly(assembly)) => assembly.holds_some(),
+            Some(Entry::Done) => true,
+            _ => false,
+        }
+    }
+
+    // The number behind the run of missing numbers of which nothing is held that begins with this one, or behind its first
+    // 255 numbers.
+    pub(crate) fn run_end(&self, number: u64) -> u64
+        requires from { rx_next self.now ≤ number }
+        requires missing { IsMissing self.now number }
+        requires untouched { HoldsNone (got self.now number) }
+        ensures { IsMissingRun self.now number result }
+    {
+        let last = self.rx_highest_status.min(number.saturating_add(255));
+        for end in number + 1..last {
+            if self.is_touched(end) {
+                return end;
+            }
+        }
+        last
     }
 }

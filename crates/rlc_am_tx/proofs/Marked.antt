@@ -1,19 +1,20 @@
 -- A list of SDUs in which one was sent further.
-use Rattle.std.proofs.Common.{◌≡◌, ◌≢◌, ◌⊎◌, inl, inr, ℕ, ◌+◌, ◌-◌, ◌<◌, ◌≤◌, true, false, Bool, not, List, length, get_or, set, is_some, cond, Option, Some, None, refl, sym, ◌∙◌, ap, subst, arith, get_or-set_same, get_or-set_other}
+use Rattle.std.proofs.Common.{◌≡◌, ◌≢◌, ◌⊎◌, ◌↔◌, inl, inr, ℕ, zero, suc, ◌+◌, ◌-◌, ◌*◌, ◌^◌, ◌<◌, ◌≤◌, true, false, Bool, not, List, [], ◌∷◌, length, get_or, set, is_some, cond, Option, Some, None, refl, sym, ◌∙◌, ap, subst, arith, get_or-set_same, get_or-set_other}
 use Rattle.std.specs.Option.{is_none}
 use Rattle.std.proofs.lemmas.Bool.{cases_lt, cases_eq, false≢true}
 use Rattle.std.proofs.lemmas.Bool.Decides.{nat_tests}
 use Rattle.std.proofs.lemmas.List.{get_or_past, length-set}
 use Rattle.std.proofs.lemmas.List.Folds.{prefix_len-set}
-use Rattle.std.proofs.lemmas.List.Sums.{sum_by-set}
+use Rattle.std.proofs.lemmas.List.Sums.{sum_by-set, sum_by-cons}
 use Rattle.std.proofs.lemmas.Option.{none-some, same_Some}
 use Rattle.rlc_model.specs.Numbers.{IsFirst}
-use Rattle.rlc_model.specs.Tx.{Kept, is_unsent, is_pending, Clears}
+use Rattle.rlc_model.specs.Tx.{Kept, at, is_unsent, is_pending, IsNextOf, pending, unsent, Clears}
 use Rattle.rlc_am_tx.specs.declared.pieces.Piece.{Piece}
-use Rattle.rlc_am_tx.specs.Buffer.{at, kept_from, IsSdu, IsInOrder}
-use Rattle.rlc_am_tx.specs.Pieces.{WaitsAmong, IsNextPiece, pending, unsent, MarksSlot, MarksSent, MovesUnsent, moves, stays}
+use Rattle.rlc_am_tx.specs.Buffer.{kept_from, IsPending, IsSdu, IsInOrder, most_sent, all_sent}
+use Rattle.rlc_am_tx.specs.Pieces.{AreWaiting, IsNextPiece, MarksKept, MarksSent, MovesUnsent, moves, stays}
 use Rattle.rlc_am_tx.specs.Inside.{IsTidy}
-use Rattle.rlc_am_tx.proofs.Numbers.{given, kept_below, kept_slot, kept_long}
+use Rattle.rlc_am_tx.proofs.Flagged.{run_within}
+use Rattle.rlc_am_tx.proofs.Numbers.{given, kept_below, kept_item, kept_long}
 
 -- the SDU of one number is replaced
 pub record IsSetAt (l : List (Option Kept)) (n : ℕ) (x : Option Kept) (new : List (Option Kept)) : Type 0 where
@@ -21,21 +22,21 @@ pub record IsSetAt (l : List (Option Kept)) (n : ℕ) (x : Option Kept) (new : L
   pub others : (m : ℕ) → m ≢ n → at new m ≡ at l m
   pub long : length new ≡ length l
 
--- a number that has an SDU has a slot
-pub has_slot : (base : ℕ) (slots : List (Option Kept)) (n : ℕ) (k : Kept) → at (kept_from base slots) n ≡ Some k → (base ≤ n) × (n - base < length slots) × (at slots (n - base) ≡ Some k)
-has_slot base slots n k is =
-    let ge : base ≤ n = elim (cases_lt n base) [ inl lt ↦ absurd (none-some k (sym (kept_below base slots n lt) ∙ is)) | inr ge ↦ ge ] in
-    let here : at slots (n - base) ≡ Some k = sym (kept_slot base slots n ge) ∙ is in
-    (ge, given slots (n - base) k here, here)
+-- a number that has an SDU has a SDU
+pub has_kept : (base : ℕ) (kept_sdus : List (Option Kept)) (n : ℕ) (k : Kept) → at (kept_from base kept_sdus) n ≡ Some k → (base ≤ n) × (n - base < length kept_sdus) × (at kept_sdus (n - base) ≡ Some k)
+has_kept base kept_sdus n k is =
+    let ge : base ≤ n = elim (cases_lt n base) [ inl lt ↦ absurd (none-some k (sym (kept_below base kept_sdus n lt) ∙ is)) | inr ge ↦ ge ] in
+    let here : at kept_sdus (n - base) ≡ Some k = sym (kept_item base kept_sdus n ge) ∙ is in
+    (ge, given kept_sdus (n - base) k here, here)
 
-pub kept_set : (base : ℕ) (slots : List (Option Kept)) (n : ℕ) (x : Option Kept) → base ≤ n → n - base < length slots → IsSetAt (kept_from base slots) n x (kept_from base (set slots (n - base) x))
-kept_set base slots n x ge lt = record {
-  this = kept_slot base (set slots (n - base) x) n ge ∙ get_or-set_same slots (n - base) x None lt;
+pub kept_set : (base : ℕ) (kept_sdus : List (Option Kept)) (n : ℕ) (x : Option Kept) → base ≤ n → n - base < length kept_sdus → IsSetAt (kept_from base kept_sdus) n x (kept_from base (set kept_sdus (n - base) x))
+kept_set base kept_sdus n x ge lt = record {
+  this = kept_item base (set kept_sdus (n - base) x) n ge ∙ get_or-set_same kept_sdus (n - base) x None lt;
   others = λ m ne. elim (cases_lt m base) [
-    | inl below ↦ kept_below base (set slots (n - base) x) m below ∙ sym (kept_below base slots m below)
-    | inr from ↦ kept_slot base (set slots (n - base) x) m from ∙ get_or-set_other slots (n - base) (m - base) x None (λ e. ne (omega (arith, e, ge, from))) ∙ sym (kept_slot base slots m from)
+    | inl below ↦ kept_below base (set kept_sdus (n - base) x) m below ∙ sym (kept_below base kept_sdus m below)
+    | inr from ↦ kept_item base (set kept_sdus (n - base) x) m from ∙ get_or-set_other kept_sdus (n - base) (m - base) x None (λ e. ne (omega (arith, e, ge, from))) ∙ sym (kept_item base kept_sdus m from)
   ];
-  long = kept_long base (set slots (n - base) x) ∙ ap {B = ℕ} (λ m. base + m) (length-set slots (n - base) x) ∙ sym (kept_long base slots);
+  long = kept_long base (set kept_sdus (n - base) x) ∙ ap {B = ℕ} (λ m. base + m) (length-set kept_sdus (n - base) x) ∙ sym (kept_long base kept_sdus);
 }
 
 -- what holds of the new SDU, and of each other one, holds of each
@@ -103,8 +104,22 @@ cleared old a e new c p is = elim (cases_lt p a) [
   ]
 ]
 
-waiting_marked : (l : List (Option Kept)) (n first : ℕ) (k k' : Kept) (new : List (Option Kept)) (Waits : ℕ → Type 0) (a e : ℕ) → at l n ≡ Some k → IsSetAt l n (Some k') new → Clears k.flags a e k'.flags → WaitsAmong l first Waits → WaitsAmong new first Waits
-waiting_marked l n first k k' new Waits a e is s c w m p = set_each l n (Some k') new (λ j o. is_pending o p ≡ true → (j ≡ first) ⊎ Waits j) s (λ set_. w n p (ap (λ (o : Option Kept). is_pending o p) is ∙ cleared k.flags a e k'.flags c p set_)) (λ j ne set_. w j p set_) m
+waiting_marked : (l : List (Option Kept)) (n first : ℕ) (k k' : Kept) (new : List (Option Kept)) (Waits Waits' : ℕ → Type 0) (a e : ℕ) → at l n ≡ Some k → IsSetAt l n (Some k') new → Clears k.flags a e k'.flags → ((m : ℕ) → Waits' m ↔ Waits m × (m ≡ n → IsPending (Some k'))) → AreWaiting l first Waits → AreWaiting new first Waits'
+waiting_marked l n first k k' new Waits Waits' a e is s c change w = record {
+  each = λ m p set_. elim (cases_eq m n) [
+    | inl eq ↦
+        let on : is_pending (Some k') p ≡ true = ap (λ (o : Option Kept). is_pending o p) (sym (ap (at new) eq ∙ s.this)) ∙ set_ in
+        let was : is_pending (at l m) p ≡ true = ap (λ j. is_pending (at l j) p) eq ∙ ap (λ (o : Option Kept). is_pending o p) is ∙ cleared k.flags a e k'.flags c p on in
+        elim (w.each m p was) [ inl at_first ↦ inl at_first | inr waits ↦ inr ((change m).1 (waits, λ j. (p, on))) ]
+    | inr ne ↦ elim (w.each m p (ap (λ (o : Option Kept). is_pending o p) (sym (s.others m ne)) ∙ set_)) [ inl at_first ↦ inl at_first | inr waits ↦ inr ((change m).1 (waits, λ j. absurd (ne j))) ]
+  ];
+  only = λ m waits.
+      let v = (change m).0 waits in
+      elim (cases_eq m n) [
+        | inl eq ↦ let h = v.1 eq in (h.0, ap (λ (o : Option Kept). is_pending o h.0) (ap (at new) eq ∙ s.this) ∙ h.1)
+        | inr ne ↦ let h = w.only m v.0 in (h.0, ap (λ (o : Option Kept). is_pending o h.0) (s.others m ne) ∙ h.1)
+      ];
+}
 
 not_true : (b : Bool) → not b ≡ true → b ≡ false
 not_true true is = absurd (false≢true is)
@@ -115,10 +130,10 @@ not_false true is = refl
 not_false false is = absurd (false≢true (sym is))
 
 -- the piece that is next, its SDU and what sending it does
-pub record IsMarked (base : ℕ) (slots : List (Option Kept)) (unsent : ℕ) (piece : Piece) (end : ℕ) (new : Option Kept) : Type 0 where
+pub record IsMarked (base : ℕ) (kept_sdus : List (Option Kept)) (unsent : ℕ) (piece : Piece) (end : ℕ) (new : Option Kept) : Type 0 where
   pub kept : Kept
   pub sent : Kept
-  pub is : at (kept_from base slots) piece.number ≡ Some kept
+  pub is : at (kept_from base kept_sdus) piece.number ≡ Some kept
   pub becomes : new ≡ Some sent
   pub clears : Clears kept.flags piece.from end sent.flags
   pub further : IsFurther kept sent piece.number unsent
@@ -136,91 +151,110 @@ unsent_is l u n i f =
       ]
     ]
 
-pub slot_kept : (o : Option Kept) (k : Kept) → o ≡ Some k → o ≢ None
-slot_kept o k is e = none-some k (sym e ∙ is)
+pub item_kept : (o : Option Kept) (k : Kept) → o ≡ Some k → o ≢ None
+item_kept o k is e = none-some k (sym e ∙ is)
 
 -- a piece that is next has an SDU
 pub next_kept : (l : List (Option Kept)) (piece : Piece) → IsNextPiece l piece → (k : Kept) × (at l piece.number ≡ Some k)
-next_kept l piece (pending p) = (p.here.kept, p.here.is)
-next_kept l piece (unsent none p) = (p.kept, p.is)
+next_kept l piece (k, pending first is run) = (k, is)
+next_kept l piece (k, unsent none first is from to) = (k, is)
 
-pub next_slot : (base : ℕ) (slots : List (Option Kept)) (piece : Piece) → IsNextPiece (kept_from base slots) piece → (piece.number - base < length slots) × (at slots (piece.number - base) ≢ None)
-next_slot base slots piece n =
-    let k = next_kept (kept_from base slots) piece n in
-    let h = has_slot base slots piece.number k.0 k.1 in
-    (h.1, slot_kept _ k.0 h.2)
+pub next_is : (l : List (Option Kept)) (piece : Piece) (k : Kept) → IsNextOf l piece.number k piece.from piece.to → at l piece.number ≡ Some k
+next_is l piece k (pending first is run) = is
+next_is l piece k (unsent none first is from to) = is
 
-is_marked : (base : ℕ) (slots : List (Option Kept)) (u : ℕ) (piece : Piece) (end : ℕ) (new : Option Kept) → IsInOrder (kept_from base slots) u → IsNextPiece (kept_from base slots) piece → piece.from < end → end ≤ piece.to → MarksSlot (at slots (piece.number - base)) piece.from end new → IsMarked base slots u piece end new
-is_marked base slots u piece end new i (pending p) some within m =
-    let h = has_slot base slots piece.number p.here.kept p.here.is in
-    let same : p.here.kept ≡ m.kept = same_Some p.here.kept m.kept (sym h.2 ∙ m.was) in
-    let clears : Clears p.here.kept.flags piece.from end m.flags = subst (λ (k : Kept). Clears k.flags piece.from end m.flags) (sym same) m.clears in
-    let sdu = i.sdus piece.number p.here.kept p.here.is in
-    let long : length m.flags ≡ length p.here.kept.flags = omega (arith, clears.long, p.here.within, within) in
-    record {
-      kept = p.here.kept;
-      sent = record p.here.kept { flags = m.flags };
-      is = p.here.is;
-      becomes = m.is ∙ ap (λ (k : Kept). Some (record k { flags = m.flags })) (sym same);
-      clears = clears;
-      further = record { sdu = refl; within = omega (arith, long, sdu.sent); order = inl long };
+pub next_item : (base : ℕ) (kept_sdus : List (Option Kept)) (piece : Piece) → IsNextPiece (kept_from base kept_sdus) piece → (piece.number - base < length kept_sdus) × (at kept_sdus (piece.number - base) ≢ None)
+next_item base kept_sdus piece n =
+    let k = next_kept (kept_from base kept_sdus) piece n in
+    let h = has_kept base kept_sdus piece.number k.0 k.1 in
+    (h.1, item_kept _ k.0 h.2)
+
+is_marked : (base : ℕ) (kept_sdus : List (Option Kept)) (u : ℕ) (piece : Piece) (end : ℕ) (new : Option Kept) → IsInOrder (kept_from base kept_sdus) u → IsNextPiece (kept_from base kept_sdus) piece → piece.from < end → end ≤ piece.to → MarksKept (at kept_sdus (piece.number - base)) piece.from end new → IsMarked base kept_sdus u piece end new
+is_marked base kept_sdus u piece end new i (k, next) some within m = go next
+  where
+    same : at (kept_from base kept_sdus) piece.number ≡ Some k → k ≡ m.kept
+    same is = let h = has_kept base kept_sdus piece.number k is in same_Some k m.kept (sym h.2 ∙ m.was)
+
+    clears : at (kept_from base kept_sdus) piece.number ≡ Some k → Clears k.flags piece.from end m.flags
+    clears is = subst (λ (x : Kept). Clears x.flags piece.from end m.flags) (sym (same is)) m.clears
+
+    go : IsNextOf (kept_from base kept_sdus) piece.number k piece.from piece.to → IsMarked base kept_sdus u piece end new
+    go (pending first is run) =
+        let long : length m.flags ≡ length k.flags = omega (arith, (clears is).long, run_within k.flags piece.from piece.to run, within) in
+        record {
+          kept = k;
+          sent = record k { flags = m.flags };
+          is = is;
+          becomes = m.is ∙ ap (λ (x : Kept). Some (record x { flags = m.flags })) (sym (same is));
+          clears = clears is;
+          further = record { sdu = refl; within = omega (arith, long, (i.sdus piece.number k is).sent); order = inl long };
+        }
+    go (unsent none first is from to) = record {
+      kept = k;
+      sent = record k { flags = m.flags };
+      is = is;
+      becomes = m.is ∙ ap (λ (x : Kept). Some (record x { flags = m.flags })) (sym (same is));
+      clears = clears is;
+      further = record { sdu = refl; within = omega (arith, (clears is).long, to, within, (i.sdus piece.number k is).sent); order = inr (unsent_is (kept_from base kept_sdus) u piece.number i first) };
     }
-is_marked base slots u piece end new i (unsent none p) some within m =
-    let h = has_slot base slots piece.number p.kept p.is in
-    let same : p.kept ≡ m.kept = same_Some p.kept m.kept (sym h.2 ∙ m.was) in
-    let clears : Clears p.kept.flags piece.from end m.flags = subst (λ (k : Kept). Clears k.flags piece.from end m.flags) (sym same) m.clears in
-    let sdu = i.sdus piece.number p.kept p.is in
-    record {
-      kept = p.kept;
-      sent = record p.kept { flags = m.flags };
-      is = p.is;
-      becomes = m.is ∙ ap (λ (k : Kept). Some (record k { flags = m.flags })) (sym same);
-      clears = clears;
-      further = record { sdu = refl; within = omega (arith, clears.long, p.to, within, sdu.sent); order = inr (unsent_is (kept_from base slots) u piece.number i p.first) };
-    }
 
-module _ (base : ℕ) (slots : List (Option Kept)) (count u : ℕ) (Waits : ℕ → Type 0) (piece : Piece) (end : ℕ) (new : Option Kept) (t : IsTidy base slots count u Waits) (next : IsNextPiece (kept_from base slots) piece) (some : piece.from < end) (within : end ≤ piece.to) (m : MarksSlot (at slots (piece.number - base)) piece.from end new) where
-  marked : IsMarked base slots u piece end new
-  marked = is_marked base slots u piece end new t.order next some within m
+module _ (base : ℕ) (kept_sdus : List (Option Kept)) (count u : ℕ) (Waits : ℕ → Type 0) (piece : Piece) (end : ℕ) (new : Option Kept) (Waits' : ℕ → Type 0) (t : IsTidy base kept_sdus count u Waits) (next : IsNextPiece (kept_from base kept_sdus) piece) (some : piece.from < end) (within : end ≤ piece.to) (m : MarksKept (at kept_sdus (piece.number - base)) piece.from end new) (change : (j : ℕ) → Waits' j ↔ Waits j × (j ≡ piece.number → IsPending new)) where
+  marked : IsMarked base kept_sdus u piece end new
+  marked = is_marked base kept_sdus u piece end new t.order next some within m
 
-  abbrev slots' : List (Option Kept)
-  slots' = set slots (piece.number - base) new
+  abbrev kept_sdus' : List (Option Kept)
+  kept_sdus' = set kept_sdus (piece.number - base) new
 
-  pub marked_set : IsSetAt (kept_from base slots) piece.number new (kept_from base slots')
-  marked_set = let h = has_slot base slots piece.number marked.kept marked.is in kept_set base slots piece.number new h.0 h.1
+  pub marked_set : IsSetAt (kept_from base kept_sdus) piece.number new (kept_from base kept_sdus')
+  marked_set = let h = has_kept base kept_sdus piece.number marked.kept marked.is in kept_set base kept_sdus piece.number new h.0 h.1
 
-  set_some : IsSetAt (kept_from base slots) piece.number (Some marked.sent) (kept_from base slots')
-  set_some = subst (λ (o : Option Kept). IsSetAt (kept_from base slots) piece.number o (kept_from base slots')) marked.becomes marked_set
+  set_some : IsSetAt (kept_from base kept_sdus) piece.number (Some marked.sent) (kept_from base kept_sdus')
+  set_some = subst (λ (o : Option Kept). IsSetAt (kept_from base kept_sdus) piece.number o (kept_from base kept_sdus')) marked.becomes marked_set
 
-  rest : (u' : ℕ) → u ≤ u' → IsInOrder (kept_from base slots') u' → IsTidy base slots' count u' Waits
+  rest : (u' : ℕ) → u ≤ u' → IsInOrder (kept_from base kept_sdus') u' → IsTidy base kept_sdus' count u' Waits'
   rest u' le order =
-      let h = has_slot base slots piece.number marked.kept marked.is in
+      let h = has_kept base kept_sdus piece.number marked.kept marked.is in
       let i = piece.number - base in
-      let counted = sum_by-set (λ (o : Option Kept). cond (is_some o) 1 0) slots i new None h.1 in
+      let counted = sum_by-set (λ (o : Option Kept). cond (is_some o) 1 0) kept_sdus i new None h.1 in
       record {
-        small = omega (arith, t.small, length-set slots i new);
-        front = prefix_len-set is_none slots i new None (ap is_none marked.becomes ∙ sym (ap is_none h.2)) ∙ t.front;
+        small = omega (arith, t.small, length-set kept_sdus i new);
+        front = prefix_len-set is_none kept_sdus i new None (ap is_none marked.becomes ∙ sym (ap is_none h.2)) ∙ t.front;
         count = omega (arith, t.count, counted, ap {B = ℕ} (λ (o : Option Kept). cond (is_some o) 1 0) marked.becomes, ap {B = ℕ} (λ (o : Option Kept). cond (is_some o) 1 0) h.2);
         acked = omega (arith, t.acked, le);
         order = order;
-        waiting = waiting_marked (kept_from base slots) piece.number base marked.kept marked.sent (kept_from base slots') Waits piece.from end marked.is set_some marked.clears t.waiting;
+        waiting = waiting_marked (kept_from base kept_sdus) piece.number base marked.kept marked.sent (kept_from base kept_sdus') Waits Waits' piece.from end marked.is set_some marked.clears (λ j. subst (λ (o : Option Kept). Waits' j ↔ Waits j × (j ≡ piece.number → IsPending o)) marked.becomes (change j)) t.waiting;
       }
 
   -- the lowest number with unsent bytes stays, or it is the next
-  pub marked_tidy : (u' : ℕ) → MovesUnsent u piece.number (not (is_unsent new)) u' → IsTidy base slots' count u' Waits
+  pub marked_tidy : (u' : ℕ) → MovesUnsent u piece.number (not (is_unsent new)) u' → IsTidy base kept_sdus' count u' Waits'
   marked_tidy u' (moves eq whole is) =
       let sent : is_unsent (Some marked.sent) ≡ false = sym (ap is_unsent marked.becomes) ∙ not_true (is_unsent new) whole in
-      rest u' (omega (arith, is)) (subst (IsInOrder (kept_from base slots')) (sym is) (order_next (kept_from base slots) piece.number u marked.kept marked.sent (kept_from base slots') t.order marked.is set_some marked.further eq sent))
+      rest u' (omega (arith, is)) (subst (IsInOrder (kept_from base kept_sdus')) (sym is) (order_next (kept_from base kept_sdus) piece.number u marked.kept marked.sent (kept_from base kept_sdus') t.order marked.is set_some marked.further eq sent))
   marked_tidy u' (stays why is) =
-      rest u' (omega (arith, is)) (subst (IsInOrder (kept_from base slots')) (sym is) (order_same (kept_from base slots) piece.number u marked.kept marked.sent (kept_from base slots') t.order marked.is set_some marked.further
+      rest u' (omega (arith, is)) (subst (IsInOrder (kept_from base kept_sdus')) (sym is) (order_same (kept_from base kept_sdus) piece.number u marked.kept marked.sent (kept_from base kept_sdus') t.order marked.is set_some marked.further
       (λ eq. elim why [ inl ne ↦ absurd (ne eq) | inr part ↦ sym (ap is_unsent marked.becomes) ∙ not_false (is_unsent new) part ])))
 
-  pub marked_sent : MarksSent (kept_from base slots) piece.number piece.from end (kept_from base slots')
+  pub marked_sent : MarksSent (kept_from base kept_sdus) piece.number piece.from end (kept_from base kept_sdus')
   marked_sent =
-      let h = has_slot base slots piece.number marked.kept marked.is in
-      let here : at slots (piece.number - base) ≡ at (kept_from base slots) piece.number = h.2 ∙ sym marked.is in
+      let h = has_kept base kept_sdus piece.number marked.kept marked.is in
+      let here : at kept_sdus (piece.number - base) ≡ at (kept_from base kept_sdus) piece.number = h.2 ∙ sym marked.is in
       record {
-        slot = subst (λ (o : Option Kept). MarksSlot o piece.from end (at (kept_from base slots') piece.number)) here (subst (MarksSlot (at slots (piece.number - base)) piece.from end) (sym marked_set.this) m);
+        kept_sdu = subst (λ (o : Option Kept). MarksKept o piece.from end (at (kept_from base kept_sdus') piece.number)) here (subst (MarksKept (at kept_sdus (piece.number - base)) piece.from end) (sym marked_set.this) m);
         others = marked_set.others;
         long = marked_set.long;
       }
+
+-- no more bytes were sent than SDUs have
+pub few_sent : (l : List (Option Kept)) → ((n : ℕ) (k : Kept) → at l n ≡ Some k → length k.flags ≤ 9005) → all_sent l ≤ 9005 * length l
+few_sent [] few = omega arith
+few_sent (None ∷ l) few = omega (arith, few_sent l (λ n k is. few (suc n) k is), sum_by-cons most_sent None l)
+few_sent (Some k ∷ l) few = omega (arith, few_sent l (λ n j is. few (suc n) j is), few zero k refl, sum_by-cons most_sent (Some k) l)
+
+pub tidy_few : (base : ℕ) (kept_sdus : List (Option Kept)) (count u : ℕ) (Waits : ℕ → Type 0) → IsTidy base kept_sdus count u Waits → all_sent (kept_from base kept_sdus) ≤ 9005 * 2 ^ 62
+tidy_few base kept_sdus count u Waits t =
+    omega (arith, few_sent (kept_from base kept_sdus) (λ n k is. let d = t.order.sdus n k is in omega (arith, d.sent, d.long)), kept_long base kept_sdus, t.small)
+
+-- a piece that is next lies within an SDU of at most 9,005 bytes
+pub next_sent : (base : ℕ) (kept_sdus : List (Option Kept)) (u : ℕ) (piece : Piece) → IsInOrder (kept_from base kept_sdus) u → IsNextPiece (kept_from base kept_sdus) piece → piece.to ≤ 9005
+next_sent base kept_sdus u piece i (k, pending first is run) = let d = i.sdus piece.number k is in omega (arith, run_within k.flags piece.from piece.to run, d.sent, d.long)
+next_sent base kept_sdus u piece i (k, unsent none first is from to) = let d = i.sdus piece.number k is in omega (arith, to, d.long)

@@ -1,16 +1,17 @@
 -- Elements of a STATUS, one by one.
 use Rattle.std.proofs.Common.{◌≡◌, ◌⊎◌, ◌↔◌, inl, inr, ℕ, zero, suc, ◌+◌, ◌-◌, ◌<◌, ◌≤◌, true, false, Bool, List, [], ◌∷◌, length, take, get_or, Option, Some, None, sym, ◌∙◌, ap, subst, arith}
 use Rattle.std.specs.Bool.{MatchBool}
+use Rattle.std.proofs.lemmas.Bool.{cases_lt}
 use Rattle.std.proofs.lemmas.List.{take_all}
 use Rattle.std.proofs.lemmas.Option.{same_Some}
 use Rattle.link_base.specs.declared.names.SnSize.{SnSize}
 use Rattle.link_base.specs.declared.names.SnSize.TheVariants.{S12, S18}
 use Rattle.rlc_status.specs.declared.status.Nack.{Nack}
 use Rattle.rlc_status.specs.Format.{NackFits, AllFit}
-use Rattle.rlc_status.specs.Says.{IsGreatest, count, Some_has}
-use Rattle.rlc_model.specs.Tx.{Kept}
+use Rattle.rlc_status.specs.Says.{IsGreatest, count, Some_has, NamesNumber, NamesPlace}
+use Rattle.rlc_model.specs.Tx.{Kept, at}
 use Rattle.rlc_am_tx.specs.Buffer.{EndsBy}
-use Rattle.rlc_am_tx.specs.Elements.{IsWrong, below_zero, past_ack, begins_past, ends_past}
+use Rattle.rlc_am_tx.specs.Elements.{HoldsNumber, HoldsPlace, PassesAck, IsWrong, below_zero, past_ack, begins_past, ends_past}
 
 -- only one number is the greatest
 pub greatest_one : (size : SnSize) (a sn m n : ℕ) → IsGreatest size a sn m → IsGreatest size a sn n → m ≡ n
@@ -56,23 +57,27 @@ module _ (P : Nack → Type 0) where
   pub none_all : (nacks : List Nack) (i : ℕ) → length nacks ≤ i → (Some_has P (take i nacks) → ⊥) → Some_has P nacks → ⊥
   none_all nacks i le none h = none (subst (Some_has P) (sym (take_all i nacks le)) h)
 
+-- an element whose part begins behind an SDU
+pub begins_is : (size : SnSize) (l : List (Option Kept)) (ack : ℕ) (e : Nack) (m start end : ℕ) → IsGreatest size ack e.sn m → e.part ≡ Some (start, end) → EndsBy l m start → IsWrong size l ack e
+begins_is size l ack e m start end g part past = begins_past (record { number = m; unconfirmed = past.0; start = start; end = end; is = g; part = part; kept = past.1; past = past.2 })
+
 -- an element whose first number is m
 module _ (size : SnSize) (l : List (Option Kept)) (ack : ℕ) (e : Nack) (m start end : ℕ) (g : IsGreatest size ack e.sn m) (part : e.part ≡ Some (start, end)) (le : m + count e ≤ ack) (begins : EndsBy l m start → ⊥) where
   not_wrong : (EndsBy l (m + count e - 1) end → end ≡ 65535) → IsWrong size l ack e → ⊥
   not_wrong ends (below_zero none) = none m g
   not_wrong ends (past_ack p) = omega (arith, greatest_one size ack e.sn m p.0 g p.1, p.2, le)
-  not_wrong ends (begins_past n s t h is past) =
-      let same = greatest_one size ack e.sn m n g h in
-      let parts = same_Some (start, end) (s, t) (sym part ∙ is) in
-      begins (subst (λ j. EndsBy l j start) (sym same) (subst (λ j. EndsBy l n j) (sym (ap (λ (x : ℕ × ℕ). x.0) parts)) past))
-  not_wrong ends (ends_past n s t h is past explicit) =
-      let same = greatest_one size ack e.sn m n g h in
-      let parts = same_Some (start, end) (s, t) (sym part ∙ is) in
-      let t_is : end ≡ t = ap (λ (x : ℕ × ℕ). x.1) parts in
-      explicit (sym t_is ∙ ends (subst (λ j. EndsBy l (j + count e - 1) end) (sym same) (subst (λ j. EndsBy l (n + count e - 1) j) (sym t_is) past)))
+  not_wrong ends (begins_past b) =
+      let same = greatest_one size ack e.sn m b.number g b.is in
+      let parts = same_Some (start, end) (b.start, b.end) (sym part ∙ b.part) in
+      begins (b.unconfirmed, ap (at l) same ∙ b.kept, omega (arith, b.past, ap (λ (x : ℕ × ℕ). x.0) parts))
+  not_wrong ends (ends_past b) =
+      let same = greatest_one size ack e.sn m b.number g b.is in
+      let parts = same_Some (start, end) (b.start, b.end) (sym part ∙ b.part) in
+      let e_is : end ≡ b.end = ap (λ (x : ℕ × ℕ). x.1) parts in
+      b.explicit (sym e_is ∙ ends (b.unconfirmed, ap (λ n. at l (n + count e - 1)) same ∙ b.kept, omega (arith, b.past, e_is)))
 
   pub wrong_is : (r : Bool) → (end ≡ 65535 → ⊥) → MatchBool r (EndsBy l (m + count e - 1) end) (EndsBy l (m + count e - 1) end → ⊥) → MatchBool r (IsWrong size l ack e) (IsWrong size l ack e → ⊥)
-  wrong_is true explicit past = ends_past m start end g part past explicit
+  wrong_is true explicit past = ends_past (record { number = m; unconfirmed = past.0; start = start; end = end; is = g; part = part; kept = past.1; past = past.2; explicit = explicit })
   wrong_is false explicit none = not_wrong (λ past. absurd (none past))
 
 -- an element that stands for none
@@ -82,3 +87,23 @@ no_nack = record { sn = 0; part = None; range = None }
 -- none so far, and not the next
 pub none_next : (P : Nack → Type 0) (nacks : List Nack) (i : ℕ) → i < length nacks → (Some_has P (take i nacks) → ⊥) → (P (get_or nacks i no_nack) → ⊥) → Some_has P (take (i + 1) nacks) → ⊥
 none_next P nacks i lt none here h = elim ((some_more P nacks i no_nack lt).0 h) [ inl before ↦ none before | inr now ↦ here now ]
+
+-- what an element names, where its first number is known
+module _ (size : SnSize) (ack : ℕ) (e : Nack) (first : ℕ) (g : IsGreatest size ack e.sn first) (n : ℕ) where
+  pub number_held : NamesNumber size ack e n ↔ HoldsNumber e first n
+  number_held = (λ h. let same = greatest_one size ack e.sn first h.first g h.is in (omega (arith, same, h.from), omega (arith, same, h.to)), λ h. record { first = first; is = g; from = h.0; to = h.1 })
+
+  pub place_held : (p : ℕ) → NamesPlace size ack e n p ↔ (HoldsNumber e first n × HoldsPlace e first n p)
+  place_held p = (
+    λ h.
+        let same : first ≡ h.number.first = greatest_one size ack e.sn first h.number.first g h.number.is in
+        ((omega (arith, same, h.number.from), omega (arith, same, h.number.to)), (λ eq. h.start (eq ∙ same), λ eq. h.stop (eq ∙ ap (λ m. m + count e) same))),
+    λ h. record { number = record { first = first; is = g; from = h.0.0; to = h.0.1 }; start = h.1.0; stop = h.1.1 },
+  )
+
+-- an element that passes the ACK is named
+pub passes_at : (size : SnSize) (ack : ℕ) (nacks : List Nack) (i : ℕ) (first : ℕ) → i < length nacks → (Some_has (PassesAck size ack) nacks → ⊥) → IsGreatest size ack (get_or nacks i no_nack).sn first → first + count (get_or nacks i no_nack) ≤ ack
+passes_at size ack nacks i first lt below g = elim (cases_lt ack (first + count (get_or nacks i no_nack))) [
+  | inl past ↦ absurd (below (some_at (PassesAck size ack) nacks i no_nack lt (first, g, past)))
+  | inr le ↦ le
+]

@@ -3,9 +3,8 @@ use Rattle.std.proofs.Common.{◌≡◌, inl, inr, ℕ, ◌+◌, ◌-◌, ◌<�
 use Rattle.std.proofs.lemmas.Bool.{cases_lt, cases_eq, false≢true}
 use Rattle.std.proofs.lemmas.Bool.Decides.{nat_tests}
 use Rattle.std.proofs.lemmas.List.{get_or_past}
-use Rattle.rlc_model.specs.Tx.{Tx, Kept, is_unsent, is_sent, IsSent, IsSentCount}
-use Rattle.rlc_am_tx.specs.Buffer.{at, SomeUnsent, NoneUnsent, IsSdu, IsInOrder, IsSentCountOf}
-use Rattle.rlc_am_tx.specs.Pieces.{sent_of}
+use Rattle.rlc_model.specs.Tx.{Kept, at, is_unsent, is_sent, SomeUnsent, HasBeenSent, IsBegunCount}
+use Rattle.rlc_am_tx.specs.Buffer.{NoneUnsent, IsSdu, IsInOrder, sent_of}
 
 -- what has unsent bytes is an SDU
 pub unsent_kept : (o : Option Kept) → is_unsent o ≡ true → (k : Kept) × (o ≡ Some k)
@@ -54,40 +53,48 @@ module _ (l : List (Option Kept)) (unsent : ℕ) (i : IsInOrder l unsent) where
   ]
 
 -- one more than the greatest number of which a byte was sent
-sent_count_more : (t : Tx) (unsent : ℕ) → IsInOrder t.kept unsent → 0 < sent_of (at t.kept unsent) → IsSentCount t (unsent + 1)
-sent_count_more t unsent i some =
-    let lt : unsent < length t.kept = begun_given t.kept unsent i some in
-    let k = from_kept t.kept unsent i unsent (omega arith) lt in
-    let here : is_sent (at t.kept unsent) ≡ true = ap is_sent k.1 ∙ begun k.0 (omega (arith, some, ap sent_of k.1)) in
+pub count_more : (l : List (Option Kept)) (unsent : ℕ) → IsInOrder l unsent → 0 < sent_of (at l unsent) → IsBegunCount l (unsent + 1)
+count_more l unsent i some =
+    let lt : unsent < length l = begun_given l unsent i some in
+    let k = from_kept l unsent i unsent (omega arith) lt in
+    let here : is_sent (at l unsent) ≡ true = ap is_sent k.1 ∙ begun k.0 (omega (arith, some, ap sent_of k.1)) in
     let back : unsent ≡ unsent + 1 - 1 = omega arith in
     record {
       above = λ n is. elim (cases_lt unsent n) [
-        | inl gt ↦ absurd (above_not_sent t.kept unsent i n gt is.0 is.1)
+        | inl gt ↦ absurd (above_not_sent l unsent i n gt is.0 is.1)
         | inr le ↦ omega (arith, le)
       ];
-      last = inr (subst (IsSent t) back (lt, here));
+      last = inr (subst (HasBeenSent l) back (lt, here));
     }
 
-sent_count_same : (t : Tx) (unsent : ℕ) → IsInOrder t.kept unsent → sent_of (at t.kept unsent) ≡ 0 → IsSentCount t unsent
-sent_count_same t unsent i none =
+pub count_same : (l : List (Option Kept)) (unsent : ℕ) → IsInOrder l unsent → sent_of (at l unsent) ≡ 0 → IsBegunCount l unsent
+count_same l unsent i none =
     record {
       above = λ n is. elim (cases_lt n unsent) [
         | inl lt ↦ lt
         | inr ge ↦ elim (cases_eq n unsent) [
           | inl eq ↦
-              let k = from_kept t.kept unsent i n ge is.0 in
-              absurd (not_begun k.0 (sym (ap sent_of k.1) ∙ ap (λ m. sent_of (at t.kept m)) eq ∙ none) (sym (ap is_sent k.1) ∙ is.1))
-          | inr ne ↦ absurd (above_not_sent t.kept unsent i n (omega (arith, ge, ne)) is.0 is.1)
+              let k = from_kept l unsent i n ge is.0 in
+              absurd (not_begun k.0 (sym (ap sent_of k.1) ∙ ap (λ m. sent_of (at l m)) eq ∙ none) (sym (ap is_sent k.1) ∙ is.1))
+          | inr ne ↦ absurd (above_not_sent l unsent i n (omega (arith, ge, ne)) is.0 is.1)
         ]
       ];
       last = elim (cases_eq unsent 0) [
         | inl eq ↦ inl eq
-        | inr ne ↦ inr (omega (arith, ne, i.limit), below_sent t.kept unsent i (unsent - 1) (omega (arith, ne)))
+        | inr ne ↦ inr (omega (arith, ne, i.limit), below_sent l unsent i (unsent - 1) (omega (arith, ne)))
       ];
     }
 
-pub count_more : (l : List (Option Kept)) (unsent : ℕ) → IsInOrder l unsent → 0 < sent_of (at l unsent) → IsSentCountOf l (unsent + 1)
-count_more l unsent i some t e = sent_count_more t unsent (subst (λ (x : List (Option Kept)). IsInOrder x unsent) (sym e) i) (subst (λ (x : List (Option Kept)). 0 < sent_of (at x unsent)) (sym e) some)
+-- there is one count only
+pub count_one : (l : List (Option Kept)) (c d : ℕ) → IsBegunCount l c → IsBegunCount l d → c ≡ d
+count_one l c d x y = elim (cases_lt c d) [
+  | inl lt ↦ elim y.last [ inl none ↦ absurd (omega (arith, lt, none)) | inr sent ↦ absurd (omega (arith, lt, x.above (d - 1) sent)) ]
+  | inr ge ↦ elim (cases_lt d c) [
+    | inl lt ↦ elim x.last [ inl none ↦ absurd (omega (arith, lt, none)) | inr sent ↦ absurd (omega (arith, lt, y.above (c - 1) sent)) ]
+    | inr le ↦ omega (arith, ge, le)
+  ]
+]
 
-pub count_same : (l : List (Option Kept)) (unsent : ℕ) → IsInOrder l unsent → sent_of (at l unsent) ≡ 0 → IsSentCountOf l unsent
-count_same l unsent i none t e = sent_count_same t unsent (subst (λ (x : List (Option Kept)). IsInOrder x unsent) (sym e) i) (subst (λ (x : List (Option Kept)). sent_of (at x unsent) ≡ 0) (sym e) none)
+-- no more was sent than there is
+pub count_within : (l : List (Option Kept)) (c : ℕ) → IsBegunCount l c → c ≤ length l
+count_within l c count = elim count.last [ inl none ↦ omega (arith, none) | inr sent ↦ omega (arith, sent.0) ]

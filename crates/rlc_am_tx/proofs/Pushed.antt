@@ -8,10 +8,10 @@ use Rattle.std.proofs.lemmas.List.{get_or_past, get_or_append_left, length_push}
 use Rattle.std.proofs.Math.Seq.{get_or-append_seam}
 use Rattle.std.proofs.lemmas.List.Sums.{sum_by-append}
 use Rattle.std.proofs.lemmas.Option.{none-some, same_Some}
-use Rattle.rlc_model.specs.Tx.{Kept, is_unsent, is_pending}
-use Rattle.rlc_am_tx.specs.Buffer.{at, kept_from, IsSdu, IsInOrder}
+use Rattle.rlc_model.specs.Tx.{Kept, at, is_unsent, is_pending}
+use Rattle.rlc_am_tx.specs.Buffer.{kept_from, IsSdu, IsInOrder}
 use Rattle.rlc_am_tx.specs.Inside.{IsTidy}
-use Rattle.rlc_am_tx.specs.Pieces.{WaitsAmong}
+use Rattle.rlc_am_tx.specs.Pieces.{AreWaiting}
 
 module _ (l : List (Option Kept)) (x : Option Kept) where
   pub pushed_before : (n : ℕ) → n < length l → at (l ++ x ∷ []) n ≡ at l n
@@ -34,13 +34,13 @@ module _ (l : List (Option Kept)) (x : Option Kept) where
         ]
       ]
 
-pub pushed_front : (slots : List (Option Kept)) (k : Kept) → prefix_len is_none slots ≡ 0 → prefix_len is_none (slots ++ Some k ∷ []) ≡ 0
+pub pushed_front : (kept_sdus : List (Option Kept)) (k : Kept) → prefix_len is_none kept_sdus ≡ 0 → prefix_len is_none (kept_sdus ++ Some k ∷ []) ≡ 0
 pushed_front [] k front = refl
-pushed_front (None ∷ slots) k front = absurd (omega (arith, front))
-pushed_front (Some s ∷ slots) k front = refl
+pushed_front (None ∷ kept_sdus) k front = absurd (omega (arith, front))
+pushed_front (Some s ∷ kept_sdus) k front = refl
 
-pub pushed_count : (slots : List (Option Kept)) (k : Kept) → count_by is_some (slots ++ Some k ∷ []) ≡ count_by is_some slots + 1
-pushed_count slots k = sum_by-append (λ (o : Option Kept). cond (is_some o) 1 0) slots (Some k ∷ [])
+pub pushed_count : (kept_sdus : List (Option Kept)) (k : Kept) → count_by is_some (kept_sdus ++ Some k ∷ []) ≡ count_by is_some kept_sdus + 1
+pushed_count kept_sdus k = sum_by-append (λ (o : Option Kept). cond (is_some o) 1 0) kept_sdus (Some k ∷ [])
 
 -- an SDU of which no byte was sent leaves the order
 pub pushed_order : (l : List (Option Kept)) (unsent : ℕ) (k : Kept) → IsInOrder l unsent → IsSdu k → length k.flags ≡ 0 → IsInOrder (l ++ Some k ∷ []) unsent
@@ -56,18 +56,28 @@ pushed_order l unsent k i sdu fresh = record {
 }
 
 -- nor is one of its bytes pending
-pub pushed_waiting : (l : List (Option Kept)) (k : Kept) (first : ℕ) (Waits : ℕ → Type 0) → k.flags ≡ [] → WaitsAmong l first Waits → WaitsAmong (l ++ Some k ∷ []) first Waits
-pushed_waiting l k first Waits fresh w n p is = pushed_each l (Some k) (λ m o. is_pending o p ≡ true → (m ≡ first) ⊎ Waits m) (λ m lt is. w m p is) (λ is. absurd (false≢true (sym (ap (λ (f : List Bool). get_or f p false) fresh) ∙ is))) (λ m lt is. absurd (false≢true is)) n is
+pub pushed_waiting : (l : List (Option Kept)) (k : Kept) (first : ℕ) (Waits : ℕ → Type 0) → k.flags ≡ [] → AreWaiting l first Waits → AreWaiting (l ++ Some k ∷ []) first Waits
+pushed_waiting l k first Waits fresh w = record {
+  each = λ n p is. pushed_each l (Some k) (λ m o. is_pending o p ≡ true → (m ≡ first) ⊎ Waits m) (λ m lt is. w.each m p is) (λ is. absurd (false≢true (sym (ap (λ (f : List Bool). get_or f p false) fresh) ∙ is))) (λ m lt is. absurd (false≢true is)) n is;
+  only = λ n waits.
+      let h = w.only n waits in (
+        h.0,
+        elim (cases_lt n (length l)) [
+          | inl lt ↦ ap (λ (o : Option Kept). is_pending o h.0) (pushed_before l (Some k) n lt) ∙ h.1
+          | inr ge ↦ absurd (false≢true (sym (ap (λ (o : Option Kept). is_pending o h.0) (get_or_past l n None ge)) ∙ h.1))
+        ],
+      );
+}
 
 -- a buffer that is given one more SDU
-pub pushed_tidy : (base : ℕ) (slots : List (Option Kept)) (count unsent : ℕ) (Waits : ℕ → Type 0) (k : Kept) → IsTidy base slots count unsent Waits → IsSdu k → k.flags ≡ [] → base + length slots < 2 ^ 62 → IsTidy base (slots ++ Some k ∷ []) (count + 1) unsent Waits
-pushed_tidy base slots count unsent Waits k i sdu fresh small =
-    let all : kept_from base (slots ++ Some k ∷ []) ≡ kept_from base slots ++ Some k ∷ [] = sym (append_assoc (replicate base None) slots (Some k ∷ [])) in
+pub pushed_tidy : (base : ℕ) (kept_sdus : List (Option Kept)) (count unsent : ℕ) (Waits : ℕ → Type 0) (k : Kept) → IsTidy base kept_sdus count unsent Waits → IsSdu k → k.flags ≡ [] → base + length kept_sdus < 2 ^ 62 → IsTidy base (kept_sdus ++ Some k ∷ []) (count + 1) unsent Waits
+pushed_tidy base kept_sdus count unsent Waits k i sdu fresh small =
+    let all : kept_from base (kept_sdus ++ Some k ∷ []) ≡ kept_from base kept_sdus ++ Some k ∷ [] = sym (append_assoc (replicate base None) kept_sdus (Some k ∷ [])) in
     record {
-      small = omega (arith, length_push slots (Some k), small);
-      front = pushed_front slots k i.front;
-      count = omega (arith, i.count, pushed_count slots k);
+      small = omega (arith, length_push kept_sdus (Some k), small);
+      front = pushed_front kept_sdus k i.front;
+      count = omega (arith, i.count, pushed_count kept_sdus k);
       acked = i.acked;
-      order = subst (λ l. IsInOrder l unsent) (sym all) (pushed_order (kept_from base slots) unsent k i.order sdu (ap length fresh));
-      waiting = subst (λ l. WaitsAmong l base Waits) (sym all) (pushed_waiting (kept_from base slots) k base Waits fresh i.waiting);
+      order = subst (λ l. IsInOrder l unsent) (sym all) (pushed_order (kept_from base kept_sdus) unsent k i.order sdu (ap length fresh));
+      waiting = subst (λ l. AreWaiting l base Waits) (sym all) (pushed_waiting (kept_from base kept_sdus) k base Waits fresh i.waiting);
     }

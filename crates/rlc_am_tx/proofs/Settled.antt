@@ -1,32 +1,58 @@
--- SDUs that are confirmed or counted, slot by slot.
-use Rattle.std.proofs.Common.{◌≡◌, ◌⊎◌, inl, inr, ℕ, zero, suc, ◌+◌, ◌<◌, ◌≤◌, true, false, Bool, List, [], ◌∷◌, ◌++◌, length, set, get_or, count_by, is_some, cond, Option, Some, None, refl, sym, ◌∙◌, ap, subst, arith, get_or-set_same, get_or-set_other, length-append}
+-- The SDUs of a buffer behind a STATUS that is carried out.
+use Rattle.std.proofs.Common.{◌≡◌, ◌↔◌, inl, inr, ℕ, zero, suc, ◌+◌, ◌-◌, ◌<◌, ◌≤◌, true, false, Bool, List, [], ◌∷◌, ◌++◌, length, take, count_by, is_some, Option, Some, None, refl, sym, ◌∙◌, ap, subst, arith}
+use Rattle.std.specs.Bool.{MatchBool}
 use Rattle.std.specs.List.{Contains}
-use Rattle.std.specs.Bool.{then_some}
 use Rattle.std.specs.Option.{option_to_list}
-use Rattle.std.specs.List.Sorted.{IsStrictlyIncreasing}
-use Rattle.std.proofs.lemmas.Bool.{cases_lt, cases_eq, false≢true}
-use Rattle.std.proofs.lemmas.List.{append-nil, length_push, get_or_append_left, get_or_default}
-use Rattle.std.proofs.lemmas.List.Elements.{Contains-append_left, Contains-push, Contains-push_cases}
-use Rattle.std.proofs.lemmas.List.Sums.{sum_by-cons}
-use Rattle.std.proofs.Math.Seq.{get_or-append_seam}
+use Rattle.std.proofs.lemmas.Bool.{cases_lt, false≢true}
 use Rattle.std.proofs.lemmas.Option.{none-some, same_Some}
+use Rattle.link_base.specs.declared.names.SnSize.{SnSize}
 use Rattle.link_base.specs.declared.rlc_words.Tag.{Tag}
-use Rattle.rlc_model.specs.Tx.{Kept}
-use Rattle.rlc_model.specs.Retransmission.{confirmed_tags}
-use Rattle.rlc_am_tx.specs.Acknowledging.{confirmed_slot, confirmed_tag, is_mark, AreMarks}
-use Rattle.rlc_am_tx.specs.Buffer.{at}
-use Rattle.rlc_am_tx.specs.Flags.{is_set}
+use Rattle.rlc_status.specs.declared.status.Status.{Status}
+use Rattle.rlc_status.specs.Says.{Names}
+use Rattle.rlc_model.specs.Tx.{Kept, at}
+use Rattle.rlc_model.specs.Retransmission.{UpdatesKept, confirmed_tags}
+use Rattle.rlc_am_tx.specs.declared.naming.Naming.{Naming}
+use Rattle.rlc_am_tx.specs.Acknowledging.{confirmed_tag, is_mark, marks_at, renewed, settled_by, settled, told_tags, Plans, UpdatesAll}
+use Rattle.rlc_am_tx.specs.Buffer.{kept_from}
+use Rattle.rlc_am_tx.specs.Flags.{is_set, IsSetOfSent, FitsSent, HasFresh, HasNoFresh, flags_with, comes_to}
+use Rattle.rlc_am_tx.specs.Naming.{named_at, pends_with, IsNamingOf}
+use Rattle.rlc_am_tx.proofs.Flagged.{flag_taken, taken_long}
+use Rattle.rlc_am_tx.proofs.Numbers.{kept_below, kept_item, kept_long}
+use Rattle.rlc_am_tx.proofs.Planned.{item_of}
+use Rattle.rlc_am_tx.proofs.NamedBytes.{counts_of, fits_of}
 
--- a slot that is replaced, where those from it on are as before
-module _ (f : ℕ → Option Kept → Option Kept) (old cur : List (Option Kept)) (n : ℕ) (new : Option Kept) where
-  pub settled_done : n < length cur → new ≡ f n (at old n) → ((i : ℕ) → i < n → at cur i ≡ f i (at old i)) → (i : ℕ) → i < n + 1 → at (set cur n new) i ≡ f i (at old i)
-  settled_done lt is done i le = elim (cases_eq i n) [
-    | inl eq ↦ ap (at (set cur n new)) eq ∙ get_or-set_same cur n new None lt ∙ is ∙ sym (ap (λ m. f m (at old m)) eq)
-    | inr ne ↦ get_or-set_other cur n i new None ne ∙ done i (omega (arith, le, ne))
-  ]
+-- the flags of an SDU that is considered for retransmission
+pub with_at : (k : Kept) (o : Option (List Bool)) → FitsSent k o → (p : ℕ) → is_set (flags_with k o) p ≡ pends_with (Some k) o p
+with_at k None fits p = refl
+with_at k (Some set) fits p = flag_taken set (length k.flags) fits p
 
-  pub settled_rest : ((i : ℕ) → n ≤ i → at cur i ≡ at old i) → (i : ℕ) → n + 1 ≤ i → at (set cur n new) i ≡ at old i
-  settled_rest rest i ge = get_or-set_other cur n i new None (λ e. omega (arith, ge, e)) ∙ rest i (omega (arith, ge))
+pub with_long : (k : Kept) (o : Option (List Bool)) → FitsSent k o → length (flags_with k o) ≡ length k.flags
+with_long k None fits = refl
+with_long k (Some set) fits = taken_long set (length k.flags) fits
+
+with_fresh : (k : Kept) (o : Option Kept) (x : Naming) (p : Option (List Bool)) → o ≡ Some k → p ≡ x.pending → IsNamingOf o x → MatchBool (is_some p) (HasFresh k.flags (flags_with k p)) (HasNoFresh k.flags (flags_with k p))
+with_fresh k o x None is e n = λ p on. on
+with_fresh k o x (Some set) is e n =
+    let w = n set (sym e) in
+    let same : w.kept ≡ k = same_Some w.kept k (sym w.is ∙ is) in
+    let fits : IsSetOfSent set (length k.flags) = subst (λ (y : Kept). IsSetOfSent set (length y.flags)) same w.fits in
+    let fresh : HasFresh k.flags set = subst (λ (y : Kept). HasFresh y.flags set) same w.fresh in
+    (fresh.0, fresh.1, flag_taken set (length k.flags) fits fresh.0 ∙ fresh.2)
+
+-- what becomes of a SDU
+pub data Settles (threshold : ℕ) (x : Naming) (old new : Option Kept) : Type 0 where
+  absent : old ≡ None → new ≡ None → Settles threshold x old new
+  received : (k : Kept) → old ≡ Some k → x.named ≡ false → new ≡ None → Settles threshold x old new
+  lacking : (k : Kept) → old ≡ Some k → x.named ≡ true → new ≡ Some (renewed threshold k x.pending) → Settles threshold x old new
+
+pub settles : (threshold : ℕ) (x : Naming) (old new : Option Kept) → new ≡ settled threshold x old → Settles threshold x old new
+settles threshold x old new is = go old refl x.named refl
+  where
+    go : (o : Option Kept) → old ≡ o → (b : Bool) → x.named ≡ b → Settles threshold x old new
+    go None e true n = absent e (is ∙ ap (settled threshold x) e)
+    go None e false n = absent e (is ∙ ap (settled threshold x) e)
+    go (Some k) e true n = lacking k e n (is ∙ ap (settled threshold x) e ∙ ap (λ (b : Bool). settled_by b (renewed threshold k x.pending)) n)
+    go (Some k) e false n = received k e n (is ∙ ap (settled threshold x) e ∙ ap (λ (b : Bool). settled_by b (renewed threshold k x.pending)) n)
 
 -- SDUs that stay have no tags
 tags_none : (xs ys : List (Option Kept)) → ((i : ℕ) → at ys i ≡ at xs i) → confirmed_tags xs ys ≡ []
@@ -36,94 +62,98 @@ tags_none (None ∷ xs) (y ∷ ys) same = tags_none xs ys (λ i. same (suc i))
 tags_none (Some k ∷ xs) (None ∷ ys) same = absurd (none-some k (same zero))
 tags_none (Some k ∷ xs) (Some j ∷ ys) same = tags_none xs ys (λ i. same (suc i))
 
--- at first
-pub tags_begin : (xs : List (Option Kept)) → confirmed_tags xs xs ≡ []
-tags_begin xs = tags_none xs xs (λ i. refl)
+tag_none : (b : Bool) → option_to_list (confirmed_tag b None) ≡ []
+tag_none true = refl
+tag_none false = refl
 
--- one more slot
-pub tags_next : (xs ys : List (Option Kept)) (n : ℕ) (named : Bool) → length ys ≡ length xs → n < length xs → ((i : ℕ) → n ≤ i → at ys i ≡ at xs i) → confirmed_tags xs (set ys n (confirmed_slot named (at xs n))) ≡ confirmed_tags xs ys ++ option_to_list (confirmed_tag named (at xs n))
-tags_next [] ys n named long lt rest = absurd (omega (arith, lt))
-tags_next (x ∷ xs) [] n named long lt rest = absurd (omega (arith, long))
-tags_next (None ∷ xs) (y ∷ ys) zero true long lt rest = ap {B = List Tag} (λ (l : List Tag). l) (tags_none xs ys (λ i. rest (suc i) (omega arith))) ∙ sym (ap (λ (l : List Tag). l ++ []) (tags_none xs ys (λ i. rest (suc i) (omega arith))))
-tags_next (None ∷ xs) (y ∷ ys) zero false long lt rest = tags_none xs ys (λ i. rest (suc i) (omega arith)) ∙ sym (ap (λ (l : List Tag). l ++ []) (tags_none xs ys (λ i. rest (suc i) (omega arith))))
-tags_next (Some k ∷ xs) (None ∷ ys) zero named long lt rest = absurd (none-some k (rest zero (omega arith)))
-tags_next (Some k ∷ xs) (Some j ∷ ys) zero true long lt rest = tags_none xs ys (λ i. rest (suc i) (omega arith)) ∙ sym (ap (λ (l : List Tag). l ++ []) (tags_none xs ys (λ i. rest (suc i) (omega arith))))
-tags_next (Some k ∷ xs) (Some j ∷ ys) zero false long lt rest = ap (λ (l : List Tag). k.tag ∷ l) (tags_none xs ys (λ i. rest (suc i) (omega arith))) ∙ sym (ap (λ (l : List Tag). l ++ k.tag ∷ []) (tags_none xs ys (λ i. rest (suc i) (omega arith))))
-tags_next (None ∷ xs) (y ∷ ys) (suc n) named long lt rest = tags_next xs ys n named (omega (arith, long)) (omega (arith, lt)) (λ i ge. rest (suc i) (omega (arith, ge)))
-tags_next (Some k ∷ xs) (None ∷ ys) (suc n) named long lt rest = ap (λ (l : List Tag). k.tag ∷ l) (tags_next xs ys n named (omega (arith, long)) (omega (arith, lt)) (λ i ge. rest (suc i) (omega (arith, ge))))
-tags_next (Some k ∷ xs) (Some j ∷ ys) (suc n) named long lt rest = tags_next xs ys n named (omega (arith, long)) (omega (arith, lt)) (λ i ge. rest (suc i) (omega (arith, ge)))
+told_step : (threshold : ℕ) (o : Option Kept) (x : Naming) (y : Option Kept) (tags : List Tag) (kept_sdus new : List (Option Kept)) → Settles threshold x o y → tags ≡ confirmed_tags kept_sdus new → option_to_list (confirmed_tag x.named o) ++ tags ≡ confirmed_tags (o ∷ kept_sdus) (y ∷ new)
+told_step threshold o x y tags kept_sdus new (absent old none) e = ap (λ (p : Option Kept). option_to_list (confirmed_tag x.named p) ++ tags) old ∙ ap (λ (l : List Tag). l ++ tags) (tag_none x.named) ∙ e ∙ sym (ap (λ (p : Option Kept). confirmed_tags (p ∷ kept_sdus) (y ∷ new)) old)
+told_step threshold o x y tags kept_sdus new (received k old named none) e =
+    ap (λ (b : Bool). option_to_list (confirmed_tag b o) ++ tags) named ∙ ap (λ (p : Option Kept). option_to_list (confirmed_tag false p) ++ tags) old ∙ ap (λ (l : List Tag). k.tag ∷ l) e ∙ sym (ap (λ (p : Option Kept). confirmed_tags (p ∷ kept_sdus) (y ∷ new)) old ∙ ap (λ (p : Option Kept). confirmed_tags (Some k ∷ kept_sdus) (p ∷ new)) none)
+told_step threshold o x y tags kept_sdus new (lacking k old named some) e =
+    ap (λ (b : Bool). option_to_list (confirmed_tag b o) ++ tags) named ∙ e ∙ sym (ap (λ (p : Option Kept). confirmed_tags (p ∷ kept_sdus) (y ∷ new)) old ∙ ap (λ (p : Option Kept). confirmed_tags (Some k ∷ kept_sdus) (p ∷ new)) some)
 
--- how many tags there are
-pub tags_count : (xs ys : List (Option Kept)) → length ys ≡ length xs → ((i : ℕ) → at xs i ≡ None → at ys i ≡ None) → count_by is_some ys + length (confirmed_tags xs ys) ≡ count_by is_some xs
-tags_count [] [] long none = refl
-tags_count [] (y ∷ ys) long none = absurd (omega (arith, long))
-tags_count (x ∷ xs) [] long none = absurd (omega (arith, long))
-tags_count (None ∷ xs) (None ∷ ys) long none = tags_count xs ys (omega (arith, long)) (λ i. none (suc i))
-tags_count (None ∷ xs) (Some j ∷ ys) long none = absurd (none-some j (sym (none zero refl)))
-tags_count (Some k ∷ xs) (None ∷ ys) long none = omega (arith, tags_count xs ys (omega (arith, long)) (λ i. none (suc i)), sum_by-cons (λ (o : Option Kept). cond (is_some o) 1 0) (Some k) xs, sum_by-cons (λ (o : Option Kept). cond (is_some o) 1 0) None ys)
-tags_count (Some k ∷ xs) (Some j ∷ ys) long none = omega (arith, tags_count xs ys (omega (arith, long)) (λ i. none (suc i)), sum_by-cons (λ (o : Option Kept). cond (is_some o) 1 0) (Some k) xs, sum_by-cons (λ (o : Option Kept). cond (is_some o) 1 0) (Some j) ys)
+-- the tags that are told are those of what is confirmed
+pub told_confirmed : (threshold : ℕ) (kept_sdus : List (Option Kept)) (names : List Naming) (new : List (Option Kept)) (c : ℕ) → c ≤ length names → length new ≡ length kept_sdus → ((i : ℕ) → i < c → at new i ≡ settled threshold (named_at names i) (at kept_sdus i)) → ((i : ℕ) → c ≤ i → at new i ≡ at kept_sdus i) → told_tags (take c kept_sdus) (take c names) ≡ confirmed_tags kept_sdus new
+told_confirmed threshold kept_sdus names new zero le long each rest = sym (tags_none kept_sdus new (λ i. rest i (omega arith)))
+told_confirmed threshold [] names new (suc c) le long each rest = refl
+told_confirmed threshold (o ∷ kept_sdus) [] new (suc c) le long each rest = absurd (omega (arith, le))
+told_confirmed threshold (o ∷ kept_sdus) (x ∷ names) [] (suc c) le long each rest = absurd (omega (arith, long))
+told_confirmed threshold (o ∷ kept_sdus) (x ∷ names) (y ∷ new) (suc c) le long each rest =
+    told_step threshold o x y (told_tags (take c kept_sdus) (take c names)) kept_sdus new (settles threshold x o y (each zero (omega arith))) (told_confirmed threshold kept_sdus names new c (omega (arith, le)) (omega (arith, long)) (λ i lt. each (suc i) (omega (arith, lt))) (λ i ge. rest (suc i) (omega (arith, ge))))
 
--- a list has at most one item of an option
-pub few_more : {A : Type 0} (xs : List A) (o : Option A) → length (xs ++ option_to_list o) ≤ length xs + 1
-few_more xs None = omega (arith, length-append xs (option_to_list None))
-few_more xs (Some x) = omega (arith, length_push xs x)
+-- numbers below the first SDU have no tags
+pub kept_tags : (base : ℕ) (xs ys : List (Option Kept)) → confirmed_tags (kept_from base xs) (kept_from base ys) ≡ confirmed_tags xs ys
+kept_tags zero xs ys = refl
+kept_tags (suc base) xs ys = kept_tags base xs ys
 
--- the same SDUs with the same tags
-pub tags_same : (xs zs ys : List (Option Kept)) → length xs ≡ length zs → ((i : ℕ) → ((at xs i ≡ None) × (at zs i ≡ None)) ⊎ ((k : Kept) × (j : Kept) × (at xs i ≡ Some k) × (at zs i ≡ Some j) × (k.tag ≡ j.tag))) → confirmed_tags xs ys ≡ confirmed_tags zs ys
-tags_same [] [] ys long same = refl
-tags_same [] (z ∷ zs) ys long same = absurd (omega (arith, long))
-tags_same (x ∷ xs) [] ys long same = absurd (omega (arith, long))
-tags_same (x ∷ xs) (z ∷ zs) [] long same = refl
-tags_same (None ∷ xs) (None ∷ zs) (y ∷ ys) long same = tags_same xs zs ys (omega (arith, long)) (λ i. same (suc i))
-tags_same (None ∷ xs) (Some j ∷ zs) (y ∷ ys) long same = absurd (elim (same zero) [ inl h ↦ none-some j (sym h.1) | inr h ↦ none-some h.0 h.2 ])
-tags_same (Some k ∷ xs) (None ∷ zs) (y ∷ ys) long same = absurd (elim (same zero) [ inl h ↦ none-some k (sym h.0) | inr h ↦ none-some h.1 h.3 ])
-tags_same (Some k ∷ xs) (Some j ∷ zs) (None ∷ ys) long same =
-    let tag : k.tag ≡ j.tag = elim (same zero) [ inl h ↦ absurd (none-some k (sym h.0)) | inr h ↦ ap (λ (x : Kept). x.tag) (same_Some k h.0 h.2) ∙ h.4 ∙ sym (ap (λ (x : Kept). x.tag) (same_Some j h.1 h.3)) ] in
-    ap (λ (t : Tag). t ∷ confirmed_tags xs ys) tag ∙ ap (λ (l : List Tag). j.tag ∷ l) (tags_same xs zs ys (omega (arith, long)) (λ i. same (suc i)))
-tags_same (Some k ∷ xs) (Some j ∷ zs) (Some y ∷ ys) long same = tags_same xs zs ys (omega (arith, long)) (λ i. same (suc i))
+kept_count : (base : ℕ) (xs : List (Option Kept)) → count_by is_some (kept_from base xs) ≡ count_by is_some xs
+kept_count zero xs = refl
+kept_count (suc base) xs = kept_count base xs
 
--- a list that rises still does with a greater number behind it
-rise_push : (xs : List ℕ) (x : ℕ) → IsStrictlyIncreasing xs → ((n : ℕ) → Contains xs n → n < x) → IsStrictlyIncreasing (xs ++ x ∷ [])
-rise_push xs x rise less k lt =
-    let long = length_push xs x in
-    let in_k : k < length xs = omega (arith, lt, long) in
-    elim (cases_lt (k + 1) (length xs)) [
-      | inl inside ↦ let a = get_or_append_left xs (x ∷ []) 0 k in_k in let b = get_or_append_left xs (x ∷ []) 0 (k + 1) inside in omega (arith, a, b, rise k inside)
-      | inr last ↦
-          let e : k + 1 ≡ length xs = omega (arith, lt, long, last) in
-          let a = get_or_append_left xs (x ∷ []) 0 k in_k in
-          let b : get_or (xs ++ x ∷ []) (k + 1) 0 ≡ x = ap (λ m. get_or (xs ++ x ∷ []) m 0) e ∙ get_or-append_seam xs x [] 0 in
-          omega (arith, a, b, less (get_or xs k 0) (k, in_k, get_or_default xs k (get_or xs k 0) 0 in_k))
+module _ (base : ℕ) (kept_sdus : List (Option Kept)) (size : SnSize) (ack threshold : ℕ) (s : Status) (names : List Naming) (tags : List Tag) (marks : List ℕ) (p : Plans kept_sdus base size ack threshold s names tags marks) (new : List (Option Kept)) (from : base ≤ ack) (enough : ack ≤ base + length names)
+    (each : (i : ℕ) → i < ack - base → at new i ≡ settled threshold (named_at names i) (at kept_sdus i)) (rest : (i : ℕ) → ack - base ≤ i → at new i ≡ at kept_sdus i) (long : length new ≡ length kept_sdus) where
+  mark_is : (i : ℕ) → i < ack - base → (k : Kept) → at kept_sdus i ≡ Some k → (named_at names i).named ≡ true → Contains marks (base + i) ↔ (comes_to threshold k.retx_count (is_some (named_at names i).pending) ≡ true)
+  mark_is i lt k is named =
+      let told : marks_at threshold kept_sdus names i ≡ comes_to threshold k.retx_count (is_some (named_at names i).pending) = ap (λ (o : Option Kept). is_mark threshold o (named_at names i).named (is_some (named_at names i).pending)) is ∙ ap (λ (b : Bool). is_mark threshold (Some k) b (is_some (named_at names i).pending)) named in (
+        λ h. let w = (p.its_marks.each (base + i)).0 h in let same : w.0 ≡ i = omega (arith, w.2) in sym told ∙ ap (marks_at threshold kept_sdus names) (sym same) ∙ w.3,
+        λ h. (p.its_marks.each (base + i)).1 (i, lt, refl, told ∙ h),
+      )
+
+  kept_updates : (i : ℕ) → i < ack - base → UpdatesKept size threshold ack s (base + i) marks (at kept_sdus i) (at new i)
+  kept_updates i lt = elim (settles threshold (named_at names i) (at kept_sdus i) (at new i) (each i lt)) [
+    | absent old none ↦ UpdatesKept.rest (inr old) (none ∙ sym old)
+    | received k old named none ↦ UpdatesKept.confirmed k old (omega (arith, lt, from), λ h. false≢true (sym named ∙ (p.numbers i).1 h)) none
+    | lacking k old named some ↦
+        let x = named_at names i in
+        let fits = fits_of k (at kept_sdus i) x x.pending old refl (p.fits i) in
+        UpdatesKept.missing k (renewed threshold k x.pending) old (omega (arith, lt, from)) ((p.numbers i).0 named) some (record {
+          tag = refl;
+          sdu = refl;
+          long = with_long k x.pending fits;
+          pends = λ q q_lt. (
+            λ h. elim ((p.places i q k old q_lt).0 (sym (with_at k x.pending fits q) ∙ h)) [ inl was ↦ inl was | inr w ↦ inr (omega (arith, lt, from), w) ],
+            λ h. with_at k x.pending fits q ∙ (p.places i q k old q_lt).1 (elim h [ inl was ↦ inl was | inr w ↦ inr w.1 ]),
+          );
+          counts = counts_of threshold k (renewed threshold k x.pending) (is_some x.pending) (comes_to threshold k.retx_count (is_some x.pending)) (Contains marks (base + i)) (with_fresh k (at kept_sdus i) x x.pending old refl (p.fits i)) refl refl (mark_is i lt k old named);
+        })
+  ]
+
+  abbrev l0 : List (Option Kept)
+  l0 = kept_from base kept_sdus
+
+  abbrev l3 : List (Option Kept)
+  l3 = kept_from base new
+
+  each_updates : (n : ℕ) → UpdatesKept size threshold ack s n marks (at l0 n) (at l3 n)
+  each_updates n = elim (cases_lt n base) [
+    | inl lt ↦ UpdatesKept.rest (inr (kept_below base kept_sdus n lt)) (kept_below base new n lt ∙ sym (kept_below base kept_sdus n lt))
+    | inr ge ↦ elim (cases_lt (n - base) (ack - base)) [
+      | inr past ↦ UpdatesKept.rest (inl (omega (arith, past, ge, from))) (kept_item base new n ge ∙ rest (n - base) past ∙ sym (kept_item base kept_sdus n ge))
+      | inl lt ↦
+          let back : base + (n - base) ≡ n = omega (arith, ge) in
+          subst (λ m. UpdatesKept size threshold ack s m marks (at l0 n) (at l3 n)) back
+          (subst (λ (o : Option Kept). UpdatesKept size threshold ack s (base + (n - base)) marks o (at l3 n)) (sym (kept_item base kept_sdus n ge))
+          (subst (UpdatesKept size threshold ack s (base + (n - base)) marks (at kept_sdus (n - base))) (sym (kept_item base new n ge)) (kept_updates (n - base) lt)))
     ]
+  ]
 
-pub marks_begin : (threshold base : ℕ) (slots : List (Option Kept)) (named fresh : List Bool) → AreMarks threshold base slots named fresh 0 []
-marks_begin threshold base slots named fresh = record {
-  rise = λ k lt. absurd (omega (arith, lt));
-  each = λ n. (λ h. absurd (omega (arith, h.1)), λ h. absurd (omega (arith, h.1)));
-}
+  only_mark : (n i : ℕ) → i < ack - base → n ≡ base + i → marks_at threshold kept_sdus names i ≡ true → (o : Option Kept) → at kept_sdus i ≡ o → (b : Bool) → (named_at names i).named ≡ b → (k : Kept) × (at l0 n ≡ Some k) × (n < ack) × Names size ack s n
+  only_mark n i lt n_is mark None is b e = absurd (false≢true (sym (ap (λ (o : Option Kept). is_mark threshold o (named_at names i).named (is_some (named_at names i).pending)) is) ∙ mark))
+  only_mark n i lt n_is mark (Some k) is false e = absurd (false≢true (sym (ap (λ (o : Option Kept). is_mark threshold o (named_at names i).named (is_some (named_at names i).pending)) is ∙ ap (λ (x : Bool). is_mark threshold (Some k) x (is_some (named_at names i).pending)) e) ∙ mark))
+  only_mark n i lt n_is mark (Some k) is true e = (k, ap (at l0) n_is ∙ item_of base kept_sdus i ∙ is, omega (arith, lt, from, n_is), subst (Names size ack s) (sym n_is) ((p.numbers i).0 e))
 
--- one more slot
-pub marks_next : (threshold base : ℕ) (slots : List (Option Kept)) (named fresh : List Bool) (i : ℕ) (marks : List ℕ) (mark : Bool) → AreMarks threshold base slots named fresh i marks → mark ≡ is_mark threshold (at slots i) (is_set named i) (is_set fresh i) → AreMarks threshold base slots named fresh (i + 1) (marks ++ option_to_list (then_some mark (base + i)))
-marks_next threshold base slots named fresh i marks true a is = record {
-  rise = rise_push marks (base + i) a.rise (λ n h. let w = (a.each n).0 h in omega (arith, w.1, w.2));
-  each = λ n. (
-    λ h. elim (Contains-push_cases marks (base + i) n h) [
-      | inl before ↦ let w = (a.each n).0 before in (w.0, omega (arith, w.1), w.2, w.3)
-      | inr here ↦ (i, omega arith, sym here, sym is)
-    ],
-    λ w. elim (cases_lt w.0 i) [
-      | inl lt ↦ Contains-append_left marks ((base + i) ∷ []) n ((a.each n).1 (w.0, lt, w.2, w.3))
-      | inr ge ↦ let e : base + i ≡ n = omega (arith, ge, w.1, w.2) in subst (Contains (marks ++ (base + i) ∷ [])) e (Contains-push marks (base + i))
-    ],
-  );
-}
-marks_next threshold base slots named fresh i marks false a is = subst (AreMarks threshold base slots named fresh (i + 1)) (sym (append-nil marks)) (record {
-  rise = a.rise;
-  each = λ n. (
-    λ h. let w = (a.each n).0 h in (w.0, omega (arith, w.1), w.2, w.3),
-    λ w. elim (cases_lt w.0 i) [
-      | inl lt ↦ (a.each n).1 (w.0, lt, w.2, w.3)
-      | inr ge ↦ let e : i ≡ w.0 = omega (arith, ge, w.1) in absurd (false≢true (is ∙ ap (λ m. is_mark threshold (at slots m) (is_set named m) (is_set fresh m)) e ∙ w.3))
-    ],
-  );
-})
+  only_marks : (n : ℕ) → Contains marks n → (k : Kept) × (at l0 n ≡ Some k) × (n < ack) × Names size ack s n
+  only_marks n h = let w = (p.its_marks.each n).0 h in only_mark n w.0 w.1 w.2 w.3 (at kept_sdus w.0) refl (named_at names w.0).named refl
+
+  pub its_tags : tags ≡ confirmed_tags kept_sdus new
+  its_tags = p.its_tags ∙ told_confirmed threshold kept_sdus names new (ack - base) (omega (arith, enough)) long each rest
+
+  pub updates : UpdatesAll size threshold ack s l0 tags marks l3
+  updates = record {
+    each = each_updates;
+    marks_only = only_marks;
+    marks_rise = p.its_marks.rise;
+    long = omega (arith, kept_long base new, kept_long base kept_sdus, long);
+    its_tags = its_tags ∙ sym (kept_tags base kept_sdus new);
+  }

@@ -1,6 +1,7 @@
--- Flags of bytes: whether each is pending for retransmission.
+-- Flags of bytes: whether each is pending for retransmission, and what is counted of it (TS 38.322 clause 5.3.2).
+use Rattle.std.specs.Prelude.{◌≡◌, ℕ, ◌+◌, ◌<◌, ◌≤◌, min, Bool, true, false, List, length, take, slice_index_or, Option, Some, None, ◌==◌}
+use Rattle.link_base.specs.declared.limits.TheConstants.{LONGEST_RLC_SDU}
 use Rattle.rlc_model.specs.Tx.{Kept}
-use Rattle.std.specs.Prelude.{◌≡◌, ◌⊎◌, ◌↔◌, ℕ, ◌+◌, ◌<◌, Bool, true, false, List, length, slice_index_or, Option, Some, None, ◌==◌}
 
 -- the byte at this place is pending
 abbrev pub is_set : List Bool → ℕ → Bool
@@ -11,10 +12,11 @@ abbrev pub IsBefore : Option ℕ → ℕ → Type 0
 IsBefore None p = Unit {0}
 IsBefore (Some until) p = p < until
 
--- the bytes named that were sent become pending
-pub record Pends (old : List Bool) (named : ℕ → Type 0) (new : List Bool) : Type 0 where
-  pub long : length new ≡ length old
-  pub pends : (p : ℕ) → p < length old → (is_set new p ≡ true) ↔ (is_set old p ≡ true) ⊎ named p
+-- a set of places for SDUs of at most 9,005 bytes, all of bytes that were sent
+pub record IsSetOfSent (set : List Bool) (sent : ℕ) : Type 0 where
+  pub long : length set ≡ LONGEST_RLC_SDU
+  pub within : sent ≤ LONGEST_RLC_SDU
+  pub beyond : (p : ℕ) → sent ≤ p → is_set set p ≡ false
 
 -- a byte is pending now that was not
 abbrev pub HasFresh : List Bool → List Bool → Type 0
@@ -24,24 +26,24 @@ HasFresh old new = (p : ℕ) × (is_set old p ≡ false) × (is_set new p ≡ tr
 abbrev pub HasNoFresh : List Bool → List Bool → Type 0
 HasNoFresh old new = (p : ℕ) → is_set new p ≡ true → is_set old p ≡ true
 
--- RETX_COUNT of an SDU that is considered for retransmission, by whether a byte became pending that was not
-abbrev pub counted : Option ℕ → Bool → Option ℕ
-counted None fresh = Some 0
-counted (Some c) true = Some (c + 1)
-counted (Some c) false = Some c
+-- the flags of an SDU once its pending bytes are those of a set, where there is one
+abbrev pub flags_with : Kept → Option (List Bool) → List Bool
+flags_with k None = k.flags
+flags_with k (Some set) = take (length k.flags) set
 
--- whether it came to its threshold
+-- such a set has only bytes of the SDU that were sent
+abbrev pub FitsSent : Kept → Option (List Bool) → Type 0
+FitsSent k None = Unit {0}
+FitsSent k (Some set) = IsSetOfSent set (length k.flags)
+
+-- RETX_COUNT of an SDU that is considered for retransmission, by whether a byte became pending that was not
+abbrev pub counted : ℕ → Option ℕ → Bool → Option ℕ
+counted threshold None fresh = Some 0
+counted threshold (Some c) true = Some (min (c + 1) (threshold + 1))
+counted threshold (Some c) false = Some c
+
+-- whether it comes to its threshold
 abbrev pub comes_to : ℕ → Option ℕ → Bool → Bool
 comes_to threshold None fresh = threshold == 0
 comes_to threshold (Some c) true = threshold == (c + 1)
 comes_to threshold (Some c) false = false
-
--- RETX_COUNT as a number of increments, and 0 where it is undefined
-abbrev pub increments : Option ℕ → ℕ
-increments None = 0
-increments (Some c) = c + 1
-
--- RETX_COUNT of an SDU, where it isn't confirmed
-abbrev pub retx_of : Option Kept → Option ℕ
-retx_of None = None
-retx_of (Some k) = k.retx_count

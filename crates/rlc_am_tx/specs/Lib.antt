@@ -1,5 +1,8 @@
 pub mod Flags
+pub mod KeptSdus
 pub mod Buffer
+pub mod Elements
+pub mod Naming
 pub mod Pieces
 pub mod Inside
 pub mod Transmitter
@@ -7,7 +10,4 @@ pub mod Giving
 pub mod Polling
 pub mod Sending
 pub mod Retransmitting
-pub mod Elements
 pub mod Acknowledging
-pub mod Beyond
-pub mod Hearing

@@ -1,13 +1,15 @@
 -- Pieces of SDUs that are next for transmission (TS 38.322 clauses 5.2.3.1.1 and 5.3.2).
-use Rattle.std.specs.Prelude.{◌≡◌, ◌≢◌, ◌⊎◌, ℕ, ◌+◌, ◌<◌, ◌≤◌, Bool, true, false, List, [], length, Option, Some, None}
+use Rattle.std.specs.Prelude.{◌≡◌, ◌≢◌, ◌⊎◌, ℕ, ◌+◌, ◌<◌, ◌≤◌, Bool, true, false, List, length, Option, Some}
+use Rattle.link_base.specs.declared.limits.TheConstants.{LONGEST_RLC_SDU}
 use Rattle.rlc_model.specs.Numbers.{IsFirst, IsFirstRun}
-use Rattle.rlc_model.specs.Tx.{Kept, is_pending, is_unsent, Clears}
+use Rattle.rlc_model.specs.Tx.{Kept, at, is_pending, is_unsent, HasPending, IsNextOf, Clears}
 use Rattle.rlc_am_tx.specs.declared.pieces.Piece.{Piece}
-use Rattle.rlc_am_tx.specs.Buffer.{at, HasPending, NonePending}
+use Rattle.rlc_am_tx.specs.Buffer.{sdu_of, sent_of}
 
--- each number with pending bytes is the first one or among these
-abbrev pub WaitsAmong : List (Option Kept) → ℕ → (ℕ → Type 0) → Type 0
-WaitsAmong l first Waits = (n p : ℕ) → is_pending (at l n) p ≡ true → (n ≡ first) ⊎ Waits n
+-- each number with pending bytes is the first one or waits, and each number that waits has some
+pub record AreWaiting (l : List (Option Kept)) (first : ℕ) (Waits : ℕ → Type 0) : Type 0 where
+  pub each : (n p : ℕ) → is_pending (at l n) p ≡ true → (n ≡ first) ⊎ Waits n
+  pub only : (n : ℕ) → Waits n → HasPending l n
 
 -- the piece is the first maximal run of pending bytes of this number
 pub record IsPendingAt (l : List (Option Kept)) (number : ℕ) (piece : Piece) : Type 0 where
@@ -22,7 +24,11 @@ pub record IsPendingPiece (l : List (Option Kept)) (piece : Piece) : Type 0 wher
   pub here : IsPendingAt l piece.number piece
   pub first : IsFirst (HasPending l) 0 piece.number
 
--- the piece is the unsent bytes of the lowest number that has some
+-- the piece is next
+abbrev pub IsNextPiece : List (Option Kept) → Piece → Type 0
+IsNextPiece l piece = (k : Kept) × IsNextOf l piece.number k piece.from piece.to
+
+-- it is the unsent bytes of the lowest number that has some
 pub record IsUnsentPiece (l : List (Option Kept)) (piece : Piece) : Type 0 where
   pub kept : Kept
   pub is : at l piece.number ≡ Some kept
@@ -30,30 +36,15 @@ pub record IsUnsentPiece (l : List (Option Kept)) (piece : Piece) : Type 0 where
   pub from : piece.from ≡ length kept.flags
   pub to : piece.to ≡ length kept.sdu
 
--- the piece is next: pending bytes come before unsent ones
-pub data IsNextPiece (l : List (Option Kept)) (piece : Piece) : Type 0 where
-  pending : IsPendingPiece l piece → IsNextPiece l piece
-  unsent : NonePending l → IsUnsentPiece l piece → IsNextPiece l piece
-
--- the bytes of an SDU, or none where it is confirmed
-abbrev pub sdu_of : Option Kept → List ℕ
-sdu_of None = []
-sdu_of (Some k) = k.sdu
-
--- how many bytes of an SDU were sent
-abbrev pub sent_of : Option Kept → ℕ
-sent_of None = 0
-sent_of (Some k) = length k.flags
-
 -- the piece has a byte, and lies within its SDU, which has at most 9,005
 pub record IsInside (l : List (Option Kept)) (piece : Piece) : Type 0 where
   pub some : piece.from < piece.to
   pub within : piece.to ≤ length (sdu_of (at l piece.number))
-  pub long : length (sdu_of (at l piece.number)) ≤ 9005
+  pub long : length (sdu_of (at l piece.number)) ≤ LONGEST_RLC_SDU
   pub after : piece.from ≤ sent_of (at l piece.number)
 
 -- the bytes of an SDU from the place a up to but without e are sent now
-pub record MarksSlot (old : Option Kept) (a e : ℕ) (new : Option Kept) : Type 0 where
+pub record MarksKept (old : Option Kept) (a e : ℕ) (new : Option Kept) : Type 0 where
   pub kept : Kept
   pub flags : List Bool
   pub was : old ≡ Some kept
@@ -62,7 +53,7 @@ pub record MarksSlot (old : Option Kept) (a e : ℕ) (new : Option Kept) : Type 
 
 -- the same of a number, and nothing else changes
 pub record MarksSent (old : List (Option Kept)) (m a e : ℕ) (new : List (Option Kept)) : Type 0 where
-  pub slot : MarksSlot (at old m) a e (at new m)
+  pub kept_sdu : MarksKept (at old m) a e (at new m)
   pub others : (n : ℕ) → n ≢ m → at new n ≡ at old n
   pub long : length new ≡ length old
 

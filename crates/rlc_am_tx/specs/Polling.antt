@@ -1,15 +1,19 @@
 -- Polling (TS 38.322 clause 5.3.3).
 use Rattle.std.specs.Prelude.{◌≡◌, ℕ, ◌+◌, ◌<◌, ◌≤◌, true, false, min, List, Option, Some}
 use Rattle.link_base.specs.declared.names.SnSize.{SnSize}
-use Rattle.rlc_model.specs.Tx.{Tx, Kept}
+use Rattle.rlc_model.specs.Tx.{Tx, Kept, HasPoll}
 use Rattle.rlc_am_tx.specs.declared.polling.Polling.{Polling}
 
 -- a poll is due whatever waits: by the PDUs or the bytes since the last one, where so many bytes of this PDU were unsent, or since one
 -- is owed
-pub data IsDue (p : Polling) (fresh : ℕ) : Type 0 where
-  by_pdus : 0 < fresh → 0 < p.poll_pdu → p.poll_pdu ≤ p.pdu_without_poll + 1 → IsDue p fresh
-  by_bytes : 0 < fresh → 0 < p.poll_byte → p.poll_byte ≤ p.byte_without_poll + fresh → IsDue p fresh
-  owed : p.poll_owed ≡ true → IsDue p fresh
+pub data PollIsDue (p : Polling) (fresh : ℕ) : Type 0 where
+  by_pdus : 0 < fresh → 0 < p.poll_pdu → p.poll_pdu ≤ p.pdu_without_poll + 1 → PollIsDue p fresh
+  by_bytes : 0 < fresh → 0 < p.poll_byte → p.poll_byte ≤ p.byte_without_poll + fresh → PollIsDue p fresh
+  owed : p.poll_owed ≡ true → PollIsDue p fresh
+
+-- a PDU has a poll of which so many bytes were unsent, where these SDUs are unconfirmed behind it
+abbrev pub PollsWith : Polling → SnSize → List (Option Kept) → ℕ → Type 0
+PollsWith p size l fresh = HasPoll p.poll_pdu p.poll_byte p.pdu_without_poll p.byte_without_poll p.poll_owed size l fresh
 
 -- behind a PDU with a poll
 abbrev pub polled : Polling → ℕ → Polling

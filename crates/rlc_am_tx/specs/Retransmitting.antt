@@ -4,13 +4,17 @@ use Rattle.std.specs.Option.{option_to_list}
 use Rattle.rlc_model.specs.Tx.{Tx, Kept}
 use Rattle.rlc_model.specs.Retransmission.{BecomesPending, RetransmitsLowest}
 
--- the bytes of an SDU that are named become pending, and whether the SDU is a mark
-pub record Retransmits (threshold : ℕ) (named : ℕ → Type 0) (old : Option Kept) (mark : Bool) (new : Option Kept) : Type 0 where
+-- all bytes of an SDU that were sent become pending, and whether the SDU is a mark
+abbrev pub RetransmitsAll : ℕ → Kept → Bool → Kept → Type 0
+RetransmitsAll threshold old mark new = BecomesPending threshold (λ p. Unit {0}) old new (mark ≡ true)
+
+-- the same of a SDU
+pub record RetransmitsKept (threshold : ℕ) (old : Option Kept) (mark : Bool) (new : Option Kept) : Type 0 where
   pub before : Kept
   pub behind : Kept
   pub was : old ≡ Some before
   pub is : new ≡ Some behind
-  pub becomes : BecomesPending threshold named before behind (mark ≡ true)
+  pub becomes : RetransmitsAll threshold before mark behind
 
 -- in each transmitter that has these SDUs, the lowest one is considered for retransmission where nothing waits
 abbrev pub RetransmitsLowestOf : ℕ → List (Option Kept) → Option ℕ → List (Option Kept) → Type 0

@@ -1,17 +1,13 @@
 -- Sending a piece of an SDU (TS 38.322 clauses 5.2.3.1.1 and 5.3.3.2).
-use Rattle.std.specs.Prelude.{◌≡◌, ℕ, ◌+◌, ◌-◌, ◌<◌, ◌≤◌, Bool, true, false, List, length, Option}
-use Rattle.std.specs.List.{prefix_len}
-use Rattle.std.specs.Option.{is_none}
+use Rattle.std.specs.Prelude.{◌≡◌, ℕ, ◌-◌, ◌<◌, Bool, true, false, List}
 use Rattle.link_base.specs.declared.names.SnSize.{SnSize}
-use Rattle.link_base.specs.SequenceNumbers.{modulus, window}
-use Rattle.rlc_pdu.specs.Amd.{Amd, bytes_of}
+use Rattle.link_base.specs.SequenceNumbers.{modulus}
+use Rattle.rlc_pdu.specs.Amd.{Amd, amd_bytes}
 use Rattle.rlc_model.specs.Pdu.{piece}
-use Rattle.rlc_model.specs.Tx.{Tx, Kept, kept_at, SameSettings, Counters}
+use Rattle.rlc_model.specs.Tx.{Tx, kept_at, SameSettings, Counters}
 use Rattle.rlc_am_tx.specs.declared.pieces.Piece.{Piece}
-use Rattle.rlc_am_tx.specs.declared.polling.Polling.{Polling}
-use Rattle.rlc_am_tx.specs.Buffer.{NonePending, NoneUnsent}
-use Rattle.rlc_am_tx.specs.Pieces.{sdu_of, sent_of, MarksSent}
-use Rattle.rlc_am_tx.specs.Polling.{IsDue}
+use Rattle.rlc_am_tx.specs.Buffer.{sdu_of, sent_of}
+use Rattle.rlc_am_tx.specs.Pieces.{MarksSent}
 
 -- the PDU of a piece up to but without the place `end`
 abbrev pub piece_of : Tx → Piece → ℕ → Bool → Amd
@@ -20,17 +16,11 @@ piece_of t p end poll = piece t.size p.number (sdu_of (kept_at t p.number)) p.fr
 -- the bytes are those of this PDU, and the transmitter sent it
 pub record SendsPiece (old : Tx) (p : Piece) (end : ℕ) (bytes : List ℕ) (new : Tx) : Type 0 where
   pub poll : Bool
-  pub spelt : bytes ≡ bytes_of old.size (piece_of old p end poll)
+  pub spelt : bytes ≡ amd_bytes old.size (piece_of old p end poll)
   pub marks : MarksSent old.kept p.number p.from end new.kept
   pub same : SameSettings old new
   pub counters : Counters old new (end - sent_of (kept_at old p.number)) poll
 
--- a PDU has a poll of which so many bytes were unsent, where these SDUs are unconfirmed behind it
-pub data HasPoll (polling : Polling) (l : List (Option Kept)) (size : SnSize) (fresh : ℕ) : Type 0 where
-  due : IsDue polling fresh → HasPoll polling l size fresh
-  nothing_waits : NoneUnsent l → NonePending l → HasPoll polling l size fresh
-  full : NoneUnsent l → prefix_len is_none l + window size ≤ length l → HasPoll polling l size fresh
-
 -- the new octets are those of the same PDU with a poll
 abbrev pub AddsPoll : List ℕ → List ℕ → Type 0
-AddsPoll old new = (size : SnSize) (v : Amd) → v.sn < modulus size → v.poll ≡ false → old ≡ bytes_of size v → new ≡ bytes_of size (record v { poll = true })
+AddsPoll old new = (size : SnSize) (v : Amd) → v.sn < modulus size → v.poll ≡ false → old ≡ amd_bytes size v → new ≡ amd_bytes size (record v { poll = true })

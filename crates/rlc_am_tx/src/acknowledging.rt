@@ -1,177 +1,330 @@
 // What a STATUS PDU does to the SDUs from TX_Next_Ack on.
-ghost use Rattle.std.specs.Prelude.{◌≡◌, ◌≢◌, ◌↔◌, ◌+◌, ◌<◌, ◌≤◌, ◌^◌, ℕ, [], ◌++◌, true, false, None, Some, length, replicate, vec_capacity, IfSome, IfNone};
+ghost use Rattle.std.specs.Prelude.{◌≡◌, ◌≢◌, ◌⊎◌, ◌↔◌, ◌+◌, ◌<◌, ◌≤◌, ◌^◌, ℕ, ◌-◌, [], ◌++◌, true, false, None, Some, length, take, replicate, is_some, vec_capacity, OnOk, OnErr, IsTrue};
 ghost use Rattle.std.specs.List.{prefix_len};
 ghost use Rattle.std.specs.Option.{is_none, option_to_list};
-ghost use Rattle.std.specs.Bool.{MatchBool, then_some};
-ghost use Rattle.rlc_model.specs.Retransmission.{confirmed_tags};
-ghost use Rattle.rlc_am_tx.specs.Buffer.{at};
-ghost use Rattle.rlc_am_tx.specs.Flags.{is_set, comes_to, increments, retx_of};
-ghost use Rattle.rlc_am_tx.specs.Elements.{HasPlace, MentionsIndex, MentionsPlace};
-ghost use Rattle.rlc_am_tx.specs.Acknowledging.{PendsSlot, confirmed_slot, confirmed_tag, counted_slot, is_mark, AreMarks};
+ghost use Rattle.std.specs.Bool.{MatchBool};
+ghost use Rattle.std.specs.Ordering.{nat_cmp};
+ghost use Rattle.std.specs.BTreeSet.{contains};
+ghost use Rattle.rlc_status.specs.Format.{AllFit};
+ghost use Rattle.rlc_status.specs.Says.{Some_has};
+ghost use Rattle.rlc_model.specs.Tx.{at};
+ghost use Rattle.rlc_am_tx.specs.Buffer.{IsPending, IsIdle};
+ghost use Rattle.rlc_am_tx.specs.Elements.{PassesAck};
+ghost use Rattle.rlc_am_tx.specs.Naming.{not_named, named_at, IsNamingOf, AreNamingsOf, ByElements, AreForgotten};
+ghost use Rattle.rlc_am_tx.specs.Acknowledging.{confirmed_tag, is_mark, marks_at, settled, told_tags, AreMarks, HasToTell, EntersWaiting, EntersOf, WaitsOn, Plans, GrowsFrom};
 
-use crate::elements::Mention;
-use crate::slot::Slot;
-use link_base::Tag;
-use rlc_model::TagList;
-use std::collections::VecDeque;
+use crate::kept_sdu::KeptSdu;
+use crate::naming::{Naming, name_all};
+use link_base::{Memory, SnSize, Tag};
+use rlc_status::Status;
+use std::alloc::Global;
+use std::collections::{BTreeSet, VecDeque};
 
-/// The tags of the SDUs that a STATUS PDU confirmed, and the numbers whose RETX_COUNT came to the threshold, with room
-/// for one more.
+/// The tags of the SDUs that a STATUS PDU confirms, and the numbers whose RETX_COUNT comes to the threshold.
 #[derive(Drop)]
 pub(crate) struct Acknowledged {
-    pub(crate) tags: TagList,
+    pub(crate) tags: Vec<Tag>,
     pub(crate) marks: Vec<u64>,
 }
 
-/// The bytes mentioned become pending. For each slot it tells whether it is mentioned, and whether a byte became pending
-/// that wasn't.
-pub(crate) fn pend_all(
-    slots: &mut VecDeque<Option<Slot>>,
-    named: &mut [bool],
-    fresh: &mut [bool],
-    mentions: &[Mention],
-)
-    requires within { (i : ℕ) → MentionsIndex mentions.now i → i < length named.old }
-    requires long { length named.old ≤ length slots.old.items }
-    requires same { length fresh.old ≡ length named.old }
-    requires not_named { (i : ℕ) → is_set named.old i ≡ false }
-    requires not_fresh { (i : ℕ) → is_set fresh.old i ≡ false }
-    ensures each { (i : ℕ) → PendsSlot (MentionsPlace mentions.now i) (at slots.old.items i) (is_set fresh.new i) (at slots.new.items i) }
-    ensures named { (i : ℕ) → is_set named.new i ≡ true ↔ MentionsIndex mentions.now i }
-    ensures long { length slots.new.items ≡ length slots.old.items }
-{
-    for mention in mentions {
-        named[mention.index] = true;
-        let pends = pend_slot(&mut slots[mention.index], mention);
-        fresh[mention.index] |= pends;
+impl Acknowledged {
+    /// Nothing, which takes no memory.
+    pub(crate) fn new(alloc: Global) -> Self
+        ensures tags { result.tags.items ≡ [] }
+        ensures marks { result.marks.items ≡ [] }
+    {
+        Acknowledged {
+            tags: Vec::new(alloc),
+            marks: Vec::new(alloc),
+        }
+    }
+
+    /// Takes memory for one more mark, where the lowest SDU may become pending: it may where no byte waits, or where one may
+    /// wait no more since SDUs are confirmed.
+    pub(crate) fn reserve(&mut self, poll_owed: bool, may_wake: bool) -> Result<(), Memory>
+        ensures tags { self.new.tags.items ≡ self.old.tags.items }
+        ensures marks { self.new.marks.items ≡ self.old.marks.items }
+        ensures room { OnOk result
+            ((may_wake ≡ true) ⊎ ((poll_owed ≡ true) × (self.old.tags.items ≢ []))
+            → length self.new.marks.items < vec_capacity self.new.marks) }
+        ensures err { OnErr result
+            ((may_wake ≡ true) ⊎ ((poll_owed ≡ true) × (self.old.tags.items ≢ []))) }
+    {
+        if may_wake || poll_owed && !self.tags.is_empty() {
+            self.marks.reserve(1)?;
+        }
+        Ok(())
     }
 }
 
-// The bytes mentioned of an SDU become pending. It answers whether one of them wasn't.
-fn pend_slot(slot: &mut Option<Slot>, mention: &Mention) -> bool
-    ensures { PendsSlot (HasPlace mention.now) slot.old result slot.new }
+/// Plans what a STATUS PDU does whose ACK_SN stands for `ack`, and takes all memory for it: what it names of the SDUs, the
+/// numbers that wait then, the tags and the marks.
+pub(crate) fn plan(
+    kept_sdus: &VecDeque<Option<KeptSdu>>,
+    names: &mut VecDeque<Naming>,
+    waiting: &mut BTreeSet<u64>,
+    base: u64,
+    ack: u64,
+    size: SnSize,
+    status: &Status,
+    threshold: u8,
+    poll_owed: bool,
+    may_wake: bool,
+    told: &mut Acknowledged,
+) -> Result<(), Memory>
+    requires fits { AllFit size status.now.nacks }
+    requires small { ack ≤ 2 ^ 62 }
+    requires base { base ≤ ack }
+    requires below { Some_has (PassesAck size ack) status.now.nacks → ⊥ }
+    requires kept_sdus { ack ≤ base + length kept_sdus.now.items }
+    requires names { ack ≤ base + length names.old.items }
+    requires forgotten { AreForgotten names.old.items }
+    requires no_tags { told.old.tags.items ≡ [] }
+    requires no_marks { told.old.marks.items ≡ [] }
+    ensures ok { OnOk result
+        (Plans kept_sdus.now.items base size ack threshold status.now names.new.items told.new.tags.items told.new.marks.items) }
+    ensures long { length names.new.items ≡ length names.old.items }
+    ensures rest { (i : ℕ) → ack ≤ base + i → named_at names.new.items i ≡ not_named }
+    ensures enters { OnOk result
+        ((n : ℕ) → EntersOf kept_sdus.now.items names.new.items (ack - base) base n
+        → contains nat_cmp waiting.new n ≡ true) }
+    ensures kept { (n : ℕ) → contains nat_cmp waiting.old n ≡ true → contains nat_cmp waiting.new n
+        ≡ true }
+    ensures only { (n : ℕ) → contains nat_cmp waiting.new n ≡ true
+        → (contains nat_cmp waiting.old n ≡ true)
+        ⊎ EntersOf kept_sdus.now.items names.new.items (ack - base) base n }
+    ensures room { OnOk result
+        ((may_wake ≡ true) ⊎ ((poll_owed ≡ true) × (told.new.tags.items ≢ []))
+        → length told.new.marks.items < vec_capacity told.new.marks) }
+    ensures err { OnErr result
+        ((may_wake ≡ true) ⊎ GrowsFrom base kept_sdus.now.items size threshold status.now ack) }
 {
-    match slot {
-        Some(slot) => slot.pend(mention.from, mention.until),
-        None => false,
-    }
+    let count = (ack - base) as usize;
+    name_all(kept_sdus, names, base, size, ack, status.nacks.as_slice())?;
+    enter_all(kept_sdus, names, count, base, waiting)?;
+    tell_all(kept_sdus, names, count, threshold, base, told)?;
+    told.reserve(poll_owed, may_wake)
 }
 
-/// Confirms the SDUs that aren't named, and adds their tags, for which there is room.
-pub(crate) fn confirm_unnamed(
-    slots: &mut VecDeque<Option<Slot>>,
-    named: &[bool],
-    tags: &mut Vec<Tag>,
-)
-    requires long { length named.now ≤ length slots.old.items }
-    requires empty { tags.old.items ≡ [] }
-    requires room { length named.now ≤ vec_capacity tags.old }
-    ensures each { (i : ℕ) → i < length named.now → at slots.new.items i ≡ confirmed_slot (is_set named.now i) (at slots.old.items i) }
-    ensures rest { (i : ℕ) → length named.now ≤ i → at slots.new.items i ≡ at slots.old.items i }
-    ensures long { length slots.new.items ≡ length slots.old.items }
-    ensures tags { tags.new.items ≡ confirmed_tags slots.old.items slots.new.items }
-{
-    for index in 0..named.len() {
-        let tag = confirm(&mut slots[index], named[index]);
-        add_tag(tags, tag);
-    }
-}
-
-// An SDU is confirmed where it isn't named. It answers the tag of one that was confirmed.
-fn confirm(slot: &mut Option<Slot>, named: bool) -> Option<Tag>
-    ensures new { slot.new ≡ confirmed_slot named slot.old }
-    ensures tag { result ≡ confirmed_tag named slot.old }
-{
-    if named {
-        return None;
-    }
-    match slot.take() {
-        Some(slot) => Some(slot.tag()),
-        None => None,
-    }
-}
-
-// Adds a tag, where there is one, for which there is room.
-fn add_tag(tags: &mut Vec<Tag>, tag: Option<Tag>)
-    requires { length tags.old.items < vec_capacity tags.old }
-    ensures items { tags.new.items ≡ tags.old.items ++ option_to_list tag }
-    ensures room { vec_capacity tags.old ≤ vec_capacity tags.new }
-{
-    if let Some(tag) = tag {
-        let Ok(()) = tags.push(tag) else {
-            unreachable!()
-        };
-    }
-}
-
-/// Counts a retransmission of the SDUs that are named, and adds the numbers whose RETX_COUNT comes to the threshold,
-/// where `base` is the first slot's. There is room for one more than there are slots.
-pub(crate) fn count_named(
-    slots: &mut VecDeque<Option<Slot>>,
-    named: &[bool],
-    fresh: &[bool],
+// Adds the tags of the first `count` SDUs that are to be confirmed, and the numbers that are to be marks, where `base` is
+// the first SDU's.
+fn tell_all(
+    kept_sdus: &VecDeque<Option<KeptSdu>>,
+    names: &VecDeque<Naming>,
+    count: usize,
     threshold: u8,
     base: u64,
-    marks: &mut Vec<u64>,
-)
-    requires long { length named.now ≤ length slots.old.items }
-    requires same { length fresh.now ≡ length named.now }
-    requires small { base + length named.now ≤ 2 ^ 62 }
-    requires counts { (i : ℕ) → increments (retx_of (at slots.old.items i)) < 2 ^ 64 }
-    requires empty { marks.old.items ≡ [] }
-    requires room { length named.now < vec_capacity marks.old }
-    ensures each { (i : ℕ) → i < length named.now → at slots.new.items i ≡ counted_slot (is_set named.now i) (is_set fresh.now i) (at slots.old.items i) }
-    ensures rest { (i : ℕ) → length named.now ≤ i → at slots.new.items i ≡ at slots.old.items i }
-    ensures long { length slots.new.items ≡ length slots.old.items }
-    ensures marks { AreMarks threshold base slots.old.items named.now fresh.now (length named.now) marks.new.items }
-    ensures room { length marks.new.items < vec_capacity marks.new }
+    told: &mut Acknowledged,
+) -> Result<(), Memory>
+    requires kept_sdus { count ≤ length kept_sdus.now.items }
+    requires names { count ≤ length names.now.items }
+    requires small { base + count ≤ 2 ^ 62 }
+    requires no_tags { told.old.tags.items ≡ [] }
+    requires no_marks { told.old.marks.items ≡ [] }
+    ensures tags { OnOk result
+        (told.new.tags.items ≡ told_tags (take count kept_sdus.now.items)
+        (take count names.now.items)) }
+    ensures marks { OnOk result
+        (AreMarks threshold base kept_sdus.now.items names.now.items count told.new.marks.items) }
+    ensures err { OnErr result (HasToTell threshold kept_sdus.now.items names.now.items count) }
 {
-    for index in 0..named.len() {
-        let marked = count_slot(&mut slots[index], named[index], fresh[index], threshold);
-        add_mark(marks, base + index as u64, marked);
+    for index in 0..count {
+        let tag = confirmed_tag(&kept_sdus[index], &names[index]);
+        add(&mut told.tags, tag)?;
+        let marked = is_mark(&kept_sdus[index], &names[index], threshold);
+        add(&mut told.marks, marked.then_some(base + index as u64))?;
+    }
+    Ok(())
+}
+
+// The tag of an SDU that is to be confirmed, since it isn't named.
+fn confirmed_tag(kept_sdu: &Option<KeptSdu>, naming: &Naming) -> Option<Tag>
+    ensures { result ≡ confirmed_tag naming.now.named kept_sdu.now }
+{
+    match kept_sdu {
+        Some(kept_sdu) if !naming.named => Some(kept_sdu.tag()),
+        _ => None,
     }
 }
 
-// An SDU is considered for retransmission where it is named. It answers whether its RETX_COUNT came to the threshold.
-fn count_slot(slot: &mut Option<Slot>, named: bool, fresh: bool, threshold: u8) -> bool
-    requires { increments (retx_of slot.old) < 2 ^ 64 }
-    ensures new { slot.new ≡ counted_slot named fresh slot.old }
-    ensures mark { result ≡ is_mark threshold slot.old named fresh }
+// Whether an SDU is named whose RETX_COUNT is to come to the threshold.
+fn is_mark(kept_sdu: &Option<KeptSdu>, naming: &Naming, threshold: u8) -> bool
+    ensures { result ≡ is_mark threshold kept_sdu.now naming.now.named
+        (is_some naming.now.pending) }
 {
-    match slot {
-        Some(slot) if named => slot.count(fresh, threshold),
+    match kept_sdu {
+        Some(kept_sdu) if naming.named => kept_sdu.is_mark(naming.pending.is_some(), threshold),
         _ => false,
     }
 }
 
-// Adds a number that is a mark, for which there is room.
-fn add_mark(marks: &mut Vec<u64>, number: u64, marked: bool)
-    requires { length marks.old.items < vec_capacity marks.old }
-    ensures items { marks.new.items ≡ marks.old.items ++ option_to_list (then_some marked number) }
-    ensures room { vec_capacity marks.old ≤ vec_capacity marks.new }
+// Adds an item, where there is one.
+fn add<T: Copy + Drop>(items: &mut Vec<T>, item: Option<T>) -> Result<(), Memory>
+    ensures ok { OnOk result (items.new.items ≡ items.old.items ++ option_to_list item) }
+    ensures err { OnErr result (item ≢ None) }
 {
-    if marked {
-        let Ok(()) = marks.push(number) else {
-            unreachable!()
-        };
+    if let Some(item) = item {
+        items.push(item)?;
+    }
+    Ok(())
+}
+
+// Has those of the first `count` numbers wait of which a byte is to become pending, and none is, where `base` is the first
+// SDU's.
+fn enter_all(
+    kept_sdus: &VecDeque<Option<KeptSdu>>,
+    names: &VecDeque<Naming>,
+    count: usize,
+    base: u64,
+    waiting: &mut BTreeSet<u64>,
+) -> Result<(), Memory>
+    requires kept_sdus { count ≤ length kept_sdus.now.items }
+    requires names { count ≤ length names.now.items }
+    requires small { base + count ≤ 2 ^ 62 }
+    ensures ok { OnOk result
+        ((n : ℕ) → EntersOf kept_sdus.now.items names.now.items count base n
+        → contains nat_cmp waiting.new n ≡ true) }
+    ensures kept { (n : ℕ) → contains nat_cmp waiting.old n ≡ true → contains nat_cmp waiting.new n
+        ≡ true }
+    ensures only { (n : ℕ) → contains nat_cmp waiting.new n ≡ true
+        → (contains nat_cmp waiting.old n ≡ true)
+        ⊎ EntersOf kept_sdus.now.items names.now.items count base n }
+    ensures err { OnErr result
+        ((i : ℕ) × (i < count)
+        × EntersWaiting (at kept_sdus.now.items i) (named_at names.now.items i)) }
+{
+    for index in 0..count {
+        enter(
+            waiting,
+            base + index as u64,
+            &kept_sdus[index],
+            &names[index],
+        )?;
+    }
+    Ok(())
+}
+
+// Has a number wait of which a byte is to become pending, and none is.
+fn enter(
+    waiting: &mut BTreeSet<u64>,
+    number: u64,
+    kept_sdu: &Option<KeptSdu>,
+    naming: &Naming,
+) -> Result<(), Memory>
+    ensures ok { OnOk result
+        (EntersWaiting kept_sdu.now naming.now → contains nat_cmp waiting.new number ≡ true) }
+    ensures kept { (n : ℕ) → contains nat_cmp waiting.old n ≡ true → contains nat_cmp waiting.new n
+        ≡ true }
+    ensures only { (n : ℕ) → contains nat_cmp waiting.new n ≡ true
+        → (contains nat_cmp waiting.old n ≡ true)
+        ⊎ ((n ≡ number) × EntersWaiting kept_sdu.now naming.now) }
+    ensures err { OnErr result (EntersWaiting kept_sdu.now naming.now) }
+{
+    if naming.pending.is_none() || has_pending(kept_sdu) {
+        return Ok(());
+    }
+    waiting.insert(number)?;
+    Ok(())
+}
+
+/// Has those of the first `count` numbers wait no more that have no pending byte, where `base` is the first SDU's.
+pub(crate) fn leave_all(
+    kept_sdus: &VecDeque<Option<KeptSdu>>,
+    count: usize,
+    base: u64,
+    waiting: &mut BTreeSet<u64>,
+)
+    requires kept_sdus { count ≤ length kept_sdus.now.items }
+    requires small { base + count ≤ 2 ^ 62 }
+    ensures { (n : ℕ) → contains nat_cmp waiting.new n ≡ true
+        ↔ (contains nat_cmp waiting.old n ≡ true) × WaitsOn kept_sdus.now.items count base n }
+{
+    if waiting.is_empty() {
+        return;
+    }
+    for index in 0..count {
+        leave_idle(waiting, base + index as u64, &kept_sdus[index]);
+    }
+}
+
+/// Has a number wait no more whose SDU has no pending byte.
+pub(crate) fn leave_idle(waiting: &mut BTreeSet<u64>, number: u64, kept_sdu: &Option<KeptSdu>)
+    ensures { (n : ℕ) → contains nat_cmp waiting.new n ≡ true
+        ↔ (contains nat_cmp waiting.old n ≡ true) × (n ≡ number → IsPending kept_sdu.now) }
+{
+    if !waiting.is_empty() && !has_pending(kept_sdu) {
+        waiting.remove(&number);
+    }
+}
+
+// Whether an SDU has a pending byte.
+fn has_pending(kept_sdu: &Option<KeptSdu>) -> bool
+    ensures { MatchBool result (IsPending kept_sdu.now) (IsIdle kept_sdu.now) }
+{
+    match kept_sdu {
+        Some(kept_sdu) => kept_sdu.first_pending().is_some(),
+        None => false,
+    }
+}
+
+/// Confirms those of the first `count` SDUs that aren't named, considers the others for retransmission, and forgets what
+/// was named.
+pub(crate) fn settle_all(
+    kept_sdus: &mut VecDeque<Option<KeptSdu>>,
+    names: &mut VecDeque<Naming>,
+    count: usize,
+    threshold: u8,
+)
+    requires kept_sdus { count ≤ length kept_sdus.old.items }
+    requires names { count ≤ length names.old.items }
+    requires fits { AreNamingsOf kept_sdus.old.items names.old.items }
+    ensures each { (i : ℕ) → i < count → at kept_sdus.new.items i
+        ≡ settled threshold (named_at names.old.items i) (at kept_sdus.old.items i) }
+    ensures rest { (i : ℕ) → count ≤ i → at kept_sdus.new.items i ≡ at kept_sdus.old.items i }
+    ensures long { length kept_sdus.new.items ≡ length kept_sdus.old.items }
+    ensures forgotten { (i : ℕ) → i < count → named_at names.new.items i ≡ not_named }
+    ensures others { (i : ℕ) → count ≤ i → named_at names.new.items i ≡ named_at names.old.items i }
+    ensures same { length names.new.items ≡ length names.old.items }
+{
+    for index in 0..count {
+        settle(&mut kept_sdus[index], &mut names[index], threshold);
+    }
+}
+
+// The same of one SDU.
+fn settle(kept_sdu: &mut Option<KeptSdu>, naming: &mut Naming, threshold: u8)
+    requires { IsNamingOf kept_sdu.old naming.old }
+    ensures kept_sdu { kept_sdu.new ≡ settled threshold naming.old kept_sdu.old }
+    ensures naming { naming.new ≡ not_named }
+{
+    let pending = naming.pending.take();
+    if !naming.named {
+        *kept_sdu = None;
+        return;
+    }
+    naming.named = false;
+    if let Some(kept_sdu) = kept_sdu {
+        kept_sdu.renew(pending, threshold);
     }
 }
 
 /// Takes the confirmed SDUs at the front away, and answers how many there were.
-pub(crate) fn pop_confirmed(slots: &mut VecDeque<Option<Slot>>) -> usize
-    ensures kept { replicate result None ++ slots.new.items ≡ slots.old.items }
-    ensures front { prefix_len is_none slots.new.items ≡ 0 }
+pub(crate) fn pop_confirmed(kept_sdus: &mut VecDeque<Option<KeptSdu>>) -> usize
+    ensures kept { replicate result None ++ kept_sdus.new.items ≡ kept_sdus.old.items }
+    ensures front { prefix_len is_none kept_sdus.new.items ≡ 0 }
 {
     let mut count = 0;
-    while is_confirmed(slots, 0) {
-        slots.pop_front();
+    while is_confirmed(kept_sdus, 0) {
+        kept_sdus.pop_front();
         count += 1;
     }
     count
 }
 
-fn is_confirmed(slots: &VecDeque<Option<Slot>>, index: usize) -> bool
-    ensures { MatchBool result ((index < length slots.now.items) × (at slots.now.items index ≡ None)) ((index < length slots.now.items) → at slots.now.items index ≢ None) }
+fn is_confirmed(kept_sdus: &VecDeque<Option<KeptSdu>>, index: usize) -> bool
+    ensures { MatchBool result
+        ((index < length kept_sdus.now.items) × (at kept_sdus.now.items index ≡ None))
+        ((index < length kept_sdus.now.items) → at kept_sdus.now.items index ≢ None) }
 {
-    index < slots.len() && slots[index].is_none()
+    index < kept_sdus.len() && kept_sdus[index].is_none()
 }

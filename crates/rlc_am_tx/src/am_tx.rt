@@ -1,20 +1,21 @@
 // The transmitting side of an RLC entity in acknowledged mode.
-ghost use Rattle.std.specs.Prelude.{◌≡◌, ◌+◌, ◌-◌, ◌<◌, ◌≤◌, ◌^◌, ◌++◌, false, length, slice_index, vec_capacity, IfOk, IfErr, OnErr};
+ghost use Rattle.std.specs.Prelude.{◌≡◌, ◌⊎◌, ◌↔◌, ◌+◌, ◌-◌, ◌*◌, ◌<◌, ◌≤◌, ◌^◌, ◌++◌, false, length, slice_index, vec_capacity, IfOk, IfErr, OnErr, IsTrue, IsSome};
 ghost use Rattle.std.specs.List.{prefix_len};
 ghost use Rattle.std.specs.Option.{is_none, option_to_list};
 ghost use Rattle.std.specs.Bool.{MatchBool};
-ghost use Rattle.link_base.specs.SequenceNumbers.{window};
-ghost use Rattle.rlc_pdu.specs.Amd.{bytes_of};
+ghost use Rattle.link_base.specs.declared.limits.TheConstants.{LONGEST_RLC_SDU};
+ghost use Rattle.link_base.specs.SequenceNumbers.{window, Near};
+ghost use Rattle.rlc_pdu.specs.Amd.{amd_bytes};
+ghost use Rattle.rlc_status.specs.Format.{StatusFits};
 ghost use Rattle.rlc_model.specs.Pdu.{si_of};
-ghost use Rattle.rlc_model.specs.Tx.{empty_tx, tx_next, tx_next_ack, room, unconfirmed, header, Gives, Grants};
-ghost use Rattle.rlc_model.specs.Calls.{Bears, ExpiresPollAs};
-ghost use Rattle.rlc_status.specs.Format.{AllFit, StatusFits};
-ghost use Rattle.rlc_model.specs.Retransmission.{HearsStatus};
-ghost use Rattle.rlc_am_tx.specs.Beyond.{IsBeyondOf};
-ghost use Rattle.rlc_am_tx.specs.Hearing.{AcknowledgesAs};
+ghost use Rattle.rlc_model.specs.Tx.{empty_tx, tx_next, tx_next_ack, room, room_of, unconfirmed, header, PendingWaits, UnsentWaits, Gives, Grants};
+ghost use Rattle.rlc_model.specs.Retransmission.{IsBeyond, IsBeyondAt, HearsStatus};
+ghost use Rattle.rlc_model.specs.Calls.{Bears, ExpiresPollAs, GrantTakesMemory, Grows, StatusTakesMemory};
+ghost use Rattle.rlc_rest.specs.Progress.{Progress, HoldsSdus};
 ghost use Rattle.rlc_am_tx.specs.Giving.{GivesBack};
 ghost use Rattle.rlc_am_tx.specs.Pieces.{IsNextPiece, IsInside};
-ghost use Rattle.rlc_am_tx.specs.Sending.{piece_of, SendsPiece, HasPoll, AddsPoll};
+ghost use Rattle.rlc_am_tx.specs.Polling.{PollsWith};
+ghost use Rattle.rlc_am_tx.specs.Sending.{piece_of, SendsPiece, AddsPoll};
 
 use crate::acknowledging::Acknowledged;
 use crate::beyond::is_beyond;
@@ -22,7 +23,7 @@ use crate::buffer::TxBuffer;
 use crate::pieces::Piece;
 use crate::polling::Polling;
 use link_base::{Bytes, Expired, LocalId, Memory, NumberList, SnSize, Tag, near};
-use rlc_model::{StatusHeard, TxGrant};
+use rlc_model::{StatusHeard, TagList, TxGrant};
 use rlc_pdu::{AmdView, Si, encode_amd};
 use rlc_status::Status;
 use std::alloc::Global;
@@ -49,8 +50,6 @@ pub struct AmTx {
     max_retx_threshold: u8,
     buffer: TxBuffer,
     polling: Polling,
-    // How often a PDU was sent or a STATUS PDU heard, or more: no counter can be greater than this allows.
-    changes: u64,
 }
 
 impl Model for AmTx {
@@ -58,11 +57,11 @@ impl Model for AmTx {
 
     ghost Value = { Tx };
 
-    ghost use Rattle.rlc_am_tx.specs.Transmitter.{tx_of, IsBoundedInside};
+    ghost use Rattle.rlc_am_tx.specs.Transmitter.{transmitter_of, GoesOnInside};
 
-    ghost view = { tx_of };
+    ghost view = { transmitter_of };
 
-    ghost invariant = { IsBoundedInside };
+    ghost invariant = { GoesOnInside };
 }
 
 impl AmTx {
@@ -83,7 +82,6 @@ impl AmTx {
             max_retx_threshold,
             buffer: TxBuffer::new(alloc),
             polling: Polling::new(poll_pdu, poll_byte),
-            changes: 0,
         })
     }
 
@@ -137,13 +135,24 @@ impl AmTx {
         self.buffer.bears(ue)
     }
 
+    /// Whether a byte waits, for retransmission or for its first transmission: a grant that is large enough sends a PDU.
+    /// It also tells that the transmitter can go on, as each one can: an SDU that is not confirmed is sent again or polled
+    /// for in the end.
+    pub fn waits(&self) -> bool
+        ensures waits { IsTrue result ↔ PendingWaits self.now ⊎ UnsentWaits self.now }
+        ensures whole { HoldsSdus self.now }
+        ensures progress { Progress self.now }
+    {
+        self.buffer.waits()
+    }
+
     /// Takes an SDU of 1 to 9,005 bytes, with a tag that comes back once it is confirmed, and answers its number (TS
     /// 38.322 clause 5.2.3.1.1). It needs TX_Next below 2^62.
     ///
     /// `NoRoom` comes exactly where `room` is 0. After an `Err` the transmitter is as it was.
     pub fn give(&mut self, tag: Tag, sdu: Bytes) -> Result<u64, GiveFault>
         requires some { 0 < length sdu }
-        requires long { length sdu ≤ 9005 }
+        requires long { length sdu ≤ LONGEST_RLC_SDU }
         requires small { tx_next self.old < 2 ^ 62 }
         ensures ok { IfOk result (λ number. Gives self.old tag sdu number self.new) }
         ensures err { OnErr result (self.new ≡ self.old) }
@@ -162,11 +171,13 @@ impl AmTx {
     /// Sends one PDU of at most `n` octets (TS 38.322 clauses 5.2.3.1.1, 5.3.2 and 5.3.3.2).
     ///
     /// `Idle` comes exactly where no byte waits for retransmission or for its first transmission, and `Small` exactly
-    /// where the header of the PDU that is next and one byte have more than `n` octets. After an `Err` the transmitter
-    /// is as it was.
+    /// where the header of the PDU that is next and one byte have more than `n` octets.
+    ///
+    /// An `Err` is want of memory, and comes only where a PDU is to be sent. The transmitter is then as it was.
     pub fn grant(&mut self, n: u32) -> Result<TxGrant, Memory>
         ensures ok { IfOk result (λ answer. Grants self.old n answer self.new) }
         ensures err { OnErr result (self.new ≡ self.old) }
+        ensures memory { OnErr result (GrantTakesMemory self.old n) }
     {
         let Some(piece) = self.buffer.next_piece() else {
             return Ok(TxGrant::Idle);
@@ -203,12 +214,16 @@ impl AmTx {
     /// Hears a STATUS PDU (TS 38.322 clauses 5.2.3.1.1, 5.3.2, 5.3.3.3 and 5.3.3.4). It needs TX_Next below 2^62.
     ///
     /// `Beyond` comes exactly where the PDU speaks of what was not sent, and `Old` exactly where it doesn't and its
-    /// ACK_SN stands for a number below TX_Next_Ack. After an `Err` the transmitter is as it was.
+    /// ACK_SN stands for a number below TX_Next_Ack.
+    ///
+    /// An `Err` is want of memory, and comes only where the PDU is to be carried out and something grows: an SDU is
+    /// confirmed, a byte becomes pending, or a number is a mark. The transmitter is then as it was.
     pub fn hear_status(&mut self, status: &Status) -> Result<StatusHeard, Memory>
         requires fits { StatusFits self.old.size status.now }
         requires small { tx_next self.old < 2 ^ 62 }
         ensures ok { IfOk result (λ answer. HearsStatus self.old status.now answer self.new) }
         ensures err { OnErr result (self.new ≡ self.old) }
+        ensures memory { OnErr result (StatusTakesMemory self.old status.now) }
     {
         let sent = self.buffer.sent_count();
         let next = self.buffer.next_ack();
@@ -218,7 +233,7 @@ impl AmTx {
                 sent,
             });
         };
-        if is_beyond(&self.buffer, self.size, ack, status.nacks.as_slice()) {
+        if is_beyond(&self.buffer, self.size, ack, status) {
             return Ok(StatusHeard::Beyond {
                 ack: status.ack,
                 sent,
@@ -233,34 +248,34 @@ impl AmTx {
 
     // Carries out a STATUS PDU whose ACK_SN stands for `ack`. After an `Err` nothing changed.
     fn acknowledge(&mut self, ack: u64, status: &Status) -> Result<StatusHeard, Memory>
-        requires fits { AllFit self.old.size status.now.nacks }
+        requires fits { StatusFits self.old.size status.now }
+        requires near { Near self.old.size status.now.ack (tx_next_ack self.old + 1) ack }
         requires from { tx_next_ack self.old ≤ ack }
         requires within { ack ≤ tx_next self.old }
-        requires fine { IsBeyondOf self.old.size self.old.kept status.now.nacks ack → ⊥ }
-        ensures ok { IfOk result (λ answer. AcknowledgesAs self.old ack status.now answer self.new) }
+        requires fine { IsBeyond self.old status.now → ⊥ }
+        ensures ok { IfOk result (λ answer. HearsStatus self.old status.now answer self.new) }
         ensures err { OnErr result (self.new ≡ self.old) }
+        ensures memory { OnErr result
+            (Grows self.old.size self.old.max_retx_threshold self.old.poll_owed self.old.kept status.now ack) }
     {
-        let Some(changes) = self.changes.checked_add(2) else {
-            return Err(Memory);
-        };
         let Acknowledged { tags, mut marks } = self.buffer.acknowledge(
             self.size,
             ack,
-            status.nacks.as_slice(),
+            status,
             self.max_retx_threshold,
+            self.polling.poll_owed,
         )?;
-        self.changes = changes;
         self.polling.stop_below(ack);
         if !self.polling.poll_owed {
             return Ok(StatusHeard::Acked {
-                tags,
+                tags: TagList::from_vec(tags),
                 marks: NumberList::from_vec(marks),
             });
         }
         let lowest = self.buffer.retransmit_lowest(self.max_retx_threshold);
         add_mark(&mut marks, lowest);
         Ok(StatusHeard::Acked {
-            tags,
+            tags: TagList::from_vec(tags),
             marks: NumberList::from_vec(marks),
         })
     }
@@ -274,14 +289,10 @@ impl AmTx {
         ensures ok { IfOk result (λ bytes. SendsPiece self.old piece.now end bytes self.new) }
         ensures err { OnErr result (self.new ≡ self.old) }
     {
-        let Some(changes) = self.changes.checked_add(1) else {
-            return Err(Memory);
-        };
         let bytes = self.encode(piece, end)?;
         let fresh = end.saturating_sub(self.buffer.sent_len(piece.number));
         self.buffer.mark_sent(piece, end)?;
-        self.changes = changes;
-        if is_polled(&mut self.buffer, &self.polling, self.size, fresh) {
+        if is_polled(&self.buffer, &self.polling, self.size, fresh) {
             self.polling.begin(self.buffer.sent_count() - 1);
             return Ok(with_poll(bytes));
         }
@@ -294,14 +305,11 @@ impl AmTx {
         requires inside { IsInside self.now.kept piece.now }
         requires some { piece.now.from < end }
         requires within { end ≤ piece.now.to }
-        ensures { IfOk result (λ bytes. bytes ≡ bytes_of self.now.size (piece_of self.now piece.now end false)) }
+        ensures { IfOk result
+            (λ bytes. bytes ≡ amd_bytes self.now.size (piece_of self.now piece.now end false)) }
     {
-        let modulus = match self.size {
-            SnSize::S12 => 4096,
-            SnSize::S18 => 262_144,
-        };
         let pdu = AmdView {
-            sn: (piece.number % modulus) as u32,
+            sn: (piece.number % self.size.modulus()) as u32,
             poll: false,
             si: si_of(piece.from == 0, end == self.buffer.sdu_len(piece.number)),
             so: piece.from as u16,
@@ -315,22 +323,17 @@ impl AmTx {
 // How many more SDUs the transmitting window takes.
 fn room_of(buffer: &TxBuffer, size: SnSize) -> u64
     requires { length buffer.now ≤ prefix_len is_none buffer.now + window size }
-    ensures { result ≡ prefix_len is_none buffer.now + window size - length buffer.now }
+    ensures { result ≡ room_of size buffer.now }
 {
-    let window = match size {
-        SnSize::S12 => 2048,
-        SnSize::S18 => 131_072,
-    };
-    buffer.next_ack() + window - buffer.next()
+    buffer.next_ack() + size.window() - buffer.next()
 }
 
 // Whether the PDU that was just sent, of which so many bytes were unsent, has a poll (TS 38.322 clause 5.3.3.2).
-fn is_polled(buffer: &mut TxBuffer, polling: &Polling, size: SnSize, fresh: usize) -> bool
-    requires window { length buffer.old ≤ prefix_len is_none buffer.old + window size }
-    requires pdus { polling.now.pdu_without_poll + 1 < 2 ^ 64 }
+fn is_polled(buffer: &TxBuffer, polling: &Polling, size: SnSize, fresh: usize) -> bool
+    requires window { length buffer.now ≤ prefix_len is_none buffer.now + window size }
+    requires pdus { polling.now.pdu_without_poll + 1 < 2 ^ 128 }
     requires bytes { polling.now.byte_without_poll + fresh < 2 ^ 128 }
-    ensures same { buffer.new ≡ buffer.old }
-    ensures polls { MatchBool result (HasPoll polling.now buffer.old size fresh) (HasPoll polling.now buffer.old size fresh → ⊥) }
+    ensures { IsTrue result ↔ PollsWith polling.now size buffer.now fresh }
 {
     if polling.is_due(fresh) {
         return true;
@@ -378,7 +381,7 @@ fn with_poll(bytes: Bytes) -> Bytes
 
 // Adds a number, where there is one, for which there is room.
 fn add_mark(marks: &mut Vec<u64>, number: Option<u64>)
-    requires { length marks.old.items < vec_capacity marks.old }
+    requires { IsSome number → length marks.old.items < vec_capacity marks.old }
     ensures { marks.new.items ≡ marks.old.items ++ option_to_list number }
 {
     if let Some(number) = number {

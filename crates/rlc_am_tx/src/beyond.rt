@@ -1,25 +1,26 @@
 // STATUS PDUs that speak of what was not sent.
-ghost use Rattle.std.specs.Prelude.{◌≡◌, ◌≤◌, ◌^◌, length};
+ghost use Rattle.std.specs.Prelude.{◌≡◌, ◌↔◌, ◌≤◌, ◌^◌, IsTrue};
 ghost use Rattle.std.specs.Bool.{MatchBool};
 ghost use Rattle.rlc_status.specs.Format.{NackFits, AllFit};
 ghost use Rattle.rlc_status.specs.Says.{Some_has};
+ghost use Rattle.rlc_model.specs.Retransmission.{SpeaksBeyond};
 ghost use Rattle.rlc_am_tx.specs.Elements.{IsWrong};
-ghost use Rattle.rlc_am_tx.specs.Beyond.{IsBeyondOf};
 
 use crate::buffer::TxBuffer;
 use crate::elements::{TO_THE_END, count_of, greatest, names};
 use link_base::SnSize;
-use rlc_status::Nack;
+use rlc_status::{Nack, Status};
 
 /// Whether a STATUS PDU, whose ACK_SN stands for `ack`, speaks of what was not sent.
-pub(crate) fn is_beyond(buffer: &TxBuffer, size: SnSize, ack: u64, nacks: &[Nack]) -> bool
-    requires fits { AllFit size nacks.now }
+pub(crate) fn is_beyond(buffer: &TxBuffer, size: SnSize, ack: u64, status: &Status) -> bool
+    requires fits { AllFit size status.now.nacks }
     requires small { ack ≤ 2 ^ 63 }
-    ensures { MatchBool result (IsBeyondOf size buffer.now nacks.now ack) (IsBeyondOf size buffer.now nacks.now ack → ⊥) }
+    ensures { IsTrue result ↔ SpeaksBeyond size buffer.now status.now ack }
 {
     if ack > buffer.sent_count() {
         return true;
     }
+    let nacks = status.nacks.as_slice();
     if any_wrong(buffer, size, ack, nacks) {
         return true;
     }
@@ -30,7 +31,8 @@ pub(crate) fn is_beyond(buffer: &TxBuffer, size: SnSize, ack: u64, nacks: &[Nack
 fn any_wrong(buffer: &TxBuffer, size: SnSize, ack: u64, nacks: &[Nack]) -> bool
     requires fits { AllFit size nacks.now }
     requires small { ack ≤ 2 ^ 62 }
-    ensures { MatchBool result (Some_has (IsWrong size buffer.now ack) nacks.now) (Some_has (IsWrong size buffer.now ack) nacks.now → ⊥) }
+    ensures { MatchBool result (Some_has (IsWrong size buffer.now ack) nacks.now)
+        (Some_has (IsWrong size buffer.now ack) nacks.now → ⊥) }
 {
     for nack in nacks {
         if is_wrong(buffer, size, ack, nack) {
@@ -44,7 +46,8 @@ fn any_wrong(buffer: &TxBuffer, size: SnSize, ack: u64, nacks: &[Nack]) -> bool
 fn is_wrong(buffer: &TxBuffer, size: SnSize, ack: u64, nack: &Nack) -> bool
     requires fits { NackFits size nack.now }
     requires small { ack ≤ 2 ^ 62 }
-    ensures { MatchBool result (IsWrong size buffer.now ack nack.now) (IsWrong size buffer.now ack nack.now → ⊥) }
+    ensures { MatchBool result (IsWrong size buffer.now ack nack.now)
+        (IsWrong size buffer.now ack nack.now → ⊥) }
 {
     let Some(first) = greatest(nack.sn, ack, size) else {
         return true;

@@ -1,25 +1,26 @@
 // The SDUs that are not confirmed, by number.
-ghost use Rattle.std.specs.Prelude.{◌≡◌, ◌≢◌, ◌-◌, ◌+◌, ◌<◌, ◌≤◌, ◌^◌, ℕ, [], ◌∷◌, ◌++◌, None, Some, false, vec_capacity, not, length, take, drop, count_by, is_some, IfSome, IfNone, IfOk, OnOk, OnErr, IfErr};
+ghost use Rattle.std.specs.Prelude.{◌≡◌, ◌≢◌, ◌⊎◌, ◌↔◌, ◌-◌, ◌+◌, ◌*◌, ◌<◌, ◌≤◌, ◌^◌, ℕ, [], ◌∷◌, ◌++◌, None, Some, true, false, vec_capacity, not, length, take, drop, count_by, is_some, IfSome, IfNone, IfOk, OnOk, OnErr, IfErr, IsTrue};
 ghost use Rattle.std.specs.List.{prefix_len};
 ghost use Rattle.std.specs.Option.{is_none};
 ghost use Rattle.std.specs.Bool.{MatchBool};
-ghost use Rattle.rlc_model.specs.Tx.{is_unsent};
-ghost use Rattle.rlc_am_tx.specs.Buffer.{at, BearsOne, BearsIn, SomePending, NonePending, SomeUnsent, NoneUnsent, IsSentCountOf, IsInOrder, EndsBy};
-ghost use Rattle.rlc_am_tx.specs.Flags.{increments, retx_of};
-ghost use Rattle.rlc_am_tx.specs.Retransmitting.{Retransmits, RetransmitsLowestOf};
+ghost use Rattle.link_base.specs.declared.limits.TheConstants.{LONGEST_RLC_SDU};
 ghost use Rattle.rlc_status.specs.Format.{AllFit};
 ghost use Rattle.rlc_status.specs.Says.{Some_has, NamesNumber};
+ghost use Rattle.rlc_model.specs.Tx.{at, is_unsent, SomePending, SomeUnsent, IsBegunCount};
+ghost use Rattle.rlc_model.specs.Calls.{Grows};
+ghost use Rattle.rlc_am_tx.specs.Buffer.{BearsOne, BearsIn, NonePending, NoneUnsent, IsInOrder, EndsBy, all_sent, sdu_of, sent_of, IsIdleList};
+ghost use Rattle.rlc_am_tx.specs.Retransmitting.{RetransmitsKept, RetransmitsLowestOf};
 ghost use Rattle.rlc_am_tx.specs.Elements.{PassesAck};
 ghost use Rattle.rlc_am_tx.specs.Acknowledging.{UpdatesAll};
-ghost use Rattle.rlc_am_tx.specs.Pieces.{IsUnsentPiece, IsNextPiece, IsInside, MarksSent, MarksSlot, MovesUnsent, sdu_of, sent_of};
+ghost use Rattle.rlc_am_tx.specs.Pieces.{IsPendingPiece, IsUnsentPiece, IsNextPiece, IsInside, MarksSent, MarksKept, MovesUnsent};
 
-use crate::acknowledging::{Acknowledged, confirm_unnamed, count_named, pend_all, pop_confirmed};
-use crate::elements::mention_all;
-use crate::pieces::{Piece, lowest_pending};
-use crate::slot::Slot;
+use crate::acknowledging::{Acknowledged, leave_all, leave_idle, plan, pop_confirmed, settle_all};
+use crate::kept_sdu::KeptSdu;
+use crate::naming::{Naming, forget_all, make_room};
+use crate::pieces::{Piece, pending_piece};
+use byte_spans::Spans;
 use link_base::{Bytes, LocalId, Memory, SnSize, Tag};
-use rlc_model::TagList;
-use rlc_status::Nack;
+use rlc_status::Status;
 use std::alloc::Global;
 use std::collections::{BTreeSet, VecDeque};
 use std::marker::Model;
@@ -28,15 +29,17 @@ use std::marker::Model;
 #[derive(Drop)]
 pub(crate) struct TxBuffer {
     alloc: Global,
-    // TX_Next_Ack, the number of the first slot.
+    // TX_Next_Ack, the number of the first SDU.
     next_ack: u64,
     // None for an SDU that is confirmed.
-    slots: VecDeque<Option<Slot>>,
+    kept_sdus: VecDeque<Option<KeptSdu>>,
     unconfirmed: u64,
     // The lowest number with bytes that were never sent, or TX_Next. SDUs are sent in the order of their numbers.
     unsent: u64,
-    // Each number with pending bytes, and maybe numbers that have none any more.
+    // The numbers with pending bytes. The first SDU's may be missing: it becomes pending without taking memory.
     waiting: BTreeSet<u64>,
+    // For each SDU, and maybe more, what a STATUS PDU names of its SDU. While none is carried out this is nothing.
+    names: VecDeque<Naming>,
 }
 
 impl Model for TxBuffer {
@@ -45,11 +48,11 @@ impl Model for TxBuffer {
 
     ghost Value = { List (Option Kept) };
 
-    ghost use Rattle.rlc_am_tx.specs.Inside.{kept_of, IsTidyInside};
+    ghost use Rattle.rlc_am_tx.specs.Inside.{kept_of, IsBuffer};
 
     ghost view = { kept_of };
 
-    ghost invariant = { IsTidyInside };
+    ghost invariant = { IsBuffer };
 }
 
 impl TxBuffer {
@@ -60,10 +63,11 @@ impl TxBuffer {
         TxBuffer {
             alloc,
             next_ack: 0,
-            slots: VecDeque::new(alloc),
+            kept_sdus: VecDeque::new(alloc),
             unconfirmed: 0,
             unsent: 0,
             waiting: BTreeSet::new(alloc),
+            names: VecDeque::new(alloc),
         }
     }
 
@@ -72,7 +76,7 @@ impl TxBuffer {
         ensures value { result ≡ length self.now }
         ensures small { result ≤ 2 ^ 62 }
     {
-        self.next_ack + self.slots.len() as u64
+        self.next_ack + self.kept_sdus.len() as u64
     }
 
     /// TX_Next_Ack.
@@ -94,8 +98,8 @@ impl TxBuffer {
     pub(crate) fn bears(&self, ue: LocalId) -> bool
         ensures { MatchBool result (BearsIn self.now ue) (BearsIn self.now ue → ⊥) }
     {
-        for index in 0..self.slots.len() {
-            if bears_one(&self.slots[index], ue) {
+        for index in 0..self.kept_sdus.len() {
+            if bears_one(&self.kept_sdus[index], ue) {
                 return true;
             }
         }
@@ -105,17 +109,25 @@ impl TxBuffer {
     /// Adds an SDU of TX_Next. For want of memory it gives the SDU back, and nothing changes.
     pub(crate) fn push(&mut self, tag: Tag, sdu: Bytes) -> Result<(), Bytes>
         requires some { 0 < length sdu }
-        requires long { length sdu ≤ 9005 }
+        requires long { length sdu ≤ LONGEST_RLC_SDU }
         requires small { length self.old < 2 ^ 62 }
-        ensures ok { OnOk result (self.new ≡ self.old ++ Some (record { tag = tag; sdu = sdu; flags = []; retx_count = None }) ∷ []) }
+        ensures ok { OnOk result
+            (self.new ≡ self.old ++ Some
+            (record { tag = tag; sdu = sdu; flags = []; retx_count = None }) ∷ []) }
         ensures err { OnErr result (self.new ≡ self.old) }
         ensures back { IfErr result (λ back. back ≡ sdu) }
     {
-        if self.slots.reserve(1).is_err() {
+        let Ok(pending) = Spans::new(self.alloc) else {
+            return Err(sdu);
+        };
+        let Ok(()) = make_room(&mut self.names, self.kept_sdus.len() + 1) else {
+            return Err(sdu);
+        };
+        if self.kept_sdus.reserve(1).is_err() {
             return Err(sdu);
         }
-        let slot = Slot::new(self.alloc, tag, sdu);
-        let Ok(()) = self.slots.push_back(Some(slot)) else {
+        let kept_sdu = KeptSdu::new(tag, sdu, pending);
+        let Ok(()) = self.kept_sdus.push_back(Some(kept_sdu)) else {
             unreachable!()
         };
         self.unconfirmed += 1;
@@ -123,25 +135,31 @@ impl TxBuffer {
     }
 
     /// The piece that is next for transmission (TS 38.322 clauses 5.2.3.1.1 and 5.3.2).
-    pub(crate) fn next_piece(&mut self) -> Option<Piece>
-        ensures same { self.new ≡ self.old }
-        ensures next { IfSome result (IsNextPiece self.old) }
-        ensures inside { IfSome result (IsInside self.old) }
-        ensures no_pending { IfNone result (NonePending self.old) }
-        ensures no_unsent { IfNone result (NoneUnsent self.old) }
+    pub(crate) fn next_piece(&self) -> Option<Piece>
+        ensures next { IfSome result (IsNextPiece self.now) }
+        ensures inside { IfSome result (IsInside self.now) }
+        ensures no_pending { IfNone result (NonePending self.now) }
+        ensures no_unsent { IfNone result (NoneUnsent self.now) }
     {
-        if let Some(piece) = lowest_pending(&mut self.waiting, self.next_ack, &self.slots) {
+        let _ = &self.alloc;
+        if let Some(piece) = self.lowest_pending() {
             return Some(piece);
         }
         self.unsent_piece()
     }
 
-    /// Whether a byte waits for retransmission.
-    pub(crate) fn pending_waits(&mut self) -> bool
-        ensures same { self.new ≡ self.old }
-        ensures waits { MatchBool result (SomePending self.old) (NonePending self.old) }
+    /// Whether a byte waits, for retransmission or for its first transmission.
+    pub(crate) fn waits(&self) -> bool
+        ensures { IsTrue result ↔ SomePending self.now ⊎ SomeUnsent self.now }
     {
-        lowest_pending(&mut self.waiting, self.next_ack, &self.slots).is_some()
+        self.unsent_waits() || self.pending_waits()
+    }
+
+    /// Whether a byte waits for retransmission.
+    pub(crate) fn pending_waits(&self) -> bool
+        ensures waits { MatchBool result (SomePending self.now) (NonePending self.now) }
+    {
+        self.lowest_pending().is_some()
     }
 
     /// Whether a byte waits for its first transmission.
@@ -153,7 +171,7 @@ impl TxBuffer {
 
     /// One more than the greatest number of which a byte was sent, or 0.
     pub(crate) fn sent_count(&self) -> u64
-        ensures count { IsSentCountOf self.now result }
+        ensures count { IsBegunCount self.now result }
         ensures small { result ≤ 2 ^ 62 }
     {
         if self.sent_len(self.unsent) > 0 {
@@ -167,8 +185,8 @@ impl TxBuffer {
     pub(crate) fn sent_len(&self, number: u64) -> usize
         ensures { result ≡ sent_of (at self.now number) }
     {
-        match self.slot(number) {
-            Some(slot) => slot.sent_len(),
+        match self.kept_sdu(number) {
+            Some(kept_sdu) => kept_sdu.sent_len(),
             None => 0,
         }
     }
@@ -177,8 +195,8 @@ impl TxBuffer {
     pub(crate) fn sdu_len(&self, number: u64) -> usize
         ensures { result ≡ length (sdu_of (at self.now number)) }
     {
-        match self.slot(number) {
-            Some(slot) => slot.sdu_len(),
+        match self.kept_sdu(number) {
+            Some(kept_sdu) => kept_sdu.sdu_len(),
             None => 0,
         }
     }
@@ -189,10 +207,10 @@ impl TxBuffer {
         requires within { to ≤ length (sdu_of (at self.now number)) }
         ensures { result.now ≡ take (to - from) (drop from (sdu_of (at self.now number))) }
     {
-        let Some(slot) = self.slot(number) else {
+        let Some(kept_sdu) = self.kept_sdu(number) else {
             unreachable!()
         };
-        slot.bytes(from, to)
+        kept_sdu.bytes(from, to)
     }
 
     /// The bytes of a piece before `end` are sent now. After an `Err` nothing changed.
@@ -201,18 +219,19 @@ impl TxBuffer {
         requires some { piece.now.from < end }
         requires within { end ≤ piece.now.to }
         ensures ok { OnOk result (MarksSent self.old piece.now.number piece.now.from end self.new) }
+        ensures few { OnOk result (all_sent self.new ≤ LONGEST_RLC_SDU * 2 ^ 62) }
         ensures err { OnErr result (self.new ≡ self.old) }
     {
         let index = (piece.number - self.next_ack) as usize;
-        let whole = mark_slot(&mut self.slots[index], piece.from, end)?;
+        let whole = mark_kept(&mut self.kept_sdus[index], piece.from, end)?;
         self.unsent = unsent_behind(self.unsent, piece.number, whole);
+        leave_idle(&mut self.waiting, piece.number, &self.kept_sdus[index]);
         Ok(())
     }
 
     /// Where no byte waits and there is an SDU, all bytes of the lowest one become pending (TS 38.322 clause 5.3.3.4).
     /// It answers the SDU's number where its RETX_COUNT came to the threshold. It takes no memory.
     pub(crate) fn retransmit_lowest(&mut self, threshold: u8) -> Option<u64>
-        requires { (n : ℕ) → increments (retx_of (at self.old n)) < 2 ^ 64 }
         ensures { RetransmitsLowestOf threshold self.old result self.new }
     {
         if self.unsent_waits() {
@@ -221,10 +240,10 @@ impl TxBuffer {
         if self.pending_waits() {
             return None;
         }
-        if self.slots.is_empty() {
+        if self.kept_sdus.is_empty() {
             return None;
         }
-        let marked = retransmit_slot(&mut self.slots[0], threshold);
+        let marked = retransmit_kept(&mut self.kept_sdus[0], threshold);
         marked.then_some(self.next_ack)
     }
 
@@ -237,80 +256,108 @@ impl TxBuffer {
 
     /// Whether a number has an SDU that has no byte at this place.
     pub(crate) fn is_past(&self, number: u64, place: usize) -> bool
-        ensures { MatchBool result (EndsBy self.now number place) (EndsBy self.now number place → ⊥) }
+        ensures { MatchBool result (EndsBy self.now number place)
+            (EndsBy self.now number place → ⊥) }
     {
-        match self.slot(number) {
-            Some(slot) => slot.sdu_len() <= place,
+        match self.kept_sdu(number) {
+            Some(kept_sdu) => kept_sdu.sdu_len() <= place,
             None => false,
         }
     }
 
     /// Carries out a STATUS PDU whose ACK_SN stands for `ack` (TS 38.322 clauses 5.2.3.1.1 and 5.3.2). All memory is
-    /// taken before anything changes.
+    /// taken before anything changes, also where a poll is owed that for the number that `retransmit_lowest` may answer
+    /// behind it.
     pub(crate) fn acknowledge(
         &mut self,
         size: SnSize,
         ack: u64,
-        nacks: &[Nack],
+        status: &Status,
         threshold: u8,
+        poll_owed: bool,
     ) -> Result<Acknowledged, Memory>
-        requires fits { AllFit size nacks.now }
+        requires fits { AllFit size status.now.nacks }
         requires from { prefix_len is_none self.old ≤ ack }
         requires within { ack ≤ length self.old }
-        requires below { Some_has (PassesAck size ack) nacks.now → ⊥ }
-        requires sent { (n : ℕ) → n < ack → (Some_has (λ e. NamesNumber size ack e n) nacks.now → ⊥) → is_unsent (at self.old n) ≡ false }
-        requires counts { (n : ℕ) → increments (retx_of (at self.old n)) < 2 ^ 64 }
-        ensures ok { IfOk result (λ done. UpdatesAll size threshold ack nacks.now self.old done.tags done.marks.items self.new) }
-        ensures counts { OnOk result ((n : ℕ) → increments (retx_of (at self.new n)) ≤ increments (retx_of (at self.old n)) + 1) }
-        ensures room { IfOk result (λ done. length done.marks.items < vec_capacity done.marks) }
+        requires below { Some_has (PassesAck size ack) status.now.nacks → ⊥ }
+        requires sent { (n : ℕ) → n < ack
+            → (Some_has (λ e. NamesNumber size ack e n) status.now.nacks → ⊥)
+            → is_unsent (at self.old n) ≡ false }
+        ensures ok { IfOk result
+            (λ told. UpdatesAll size threshold ack status.now self.old told.tags.items told.marks.items self.new) }
+        ensures room { IfOk result
+            (λ told. poll_owed ≡ true → NonePending self.new → NoneUnsent self.new
+            → prefix_len is_none self.new < length self.new
+            → length told.marks.items < vec_capacity told.marks) }
+        ensures sent { OnOk result (all_sent self.old ≤ all_sent self.new) }
         ensures err { OnErr result (self.new ≡ self.old) }
+        ensures memory { OnErr result (Grows size threshold poll_owed self.old status.now ack) }
     {
-        let count = (ack - self.next_ack) as usize;
-        let mut mentions = Vec::new(self.alloc);
-        mention_all(
-            &mut mentions,
+        let base = self.next_ack;
+        let count = (ack - base) as usize;
+        let may_wake = self.may_wake(poll_owed);
+        let mut told = Acknowledged::new(self.alloc);
+        if let Err(Memory) = plan(
+            &self.kept_sdus,
+            &mut self.names,
             &mut self.waiting,
-            self.next_ack,
-            size,
+            base,
             ack,
-            nacks,
-        )?;
-        let mut named_flags = vec![in self.alloc; false; count]?;
-        let mut fresh_flags = vec![in self.alloc; false; count]?;
-        let mut tags = Vec::with_capacity(self.alloc, count)?;
-        let mut marks = Vec::with_capacity(self.alloc, count + 1)?;
-        let named = named_flags.as_mut_slice();
-        let fresh = fresh_flags.as_mut_slice();
-        pend_all(&mut self.slots, named, fresh, &mentions);
-        confirm_unnamed(&mut self.slots, named, &mut tags);
-        count_named(
-            &mut self.slots,
-            named,
-            fresh,
+            size,
+            status,
             threshold,
-            self.next_ack,
-            &mut marks,
-        );
-        self.unconfirmed -= tags.len() as u64;
-        self.next_ack += pop_confirmed(&mut self.slots) as u64;
-        Ok(Acknowledged {
-            tags: TagList::from_vec(tags),
-            marks,
-        })
+            poll_owed,
+            may_wake,
+            &mut told,
+        ) {
+            forget_all(&mut self.names, count);
+            leave_all(&self.kept_sdus, count, base, &mut self.waiting);
+            return Err(Memory);
+        }
+        settle_all(&mut self.kept_sdus, &mut self.names, count, threshold);
+        leave_all(&self.kept_sdus, count, base, &mut self.waiting);
+        self.unconfirmed -= told.tags.len() as u64;
+        self.next_ack += pop_confirmed(&mut self.kept_sdus) as u64;
+        Ok(told)
     }
 
-    fn slot(&self, number: u64) -> Option<&Slot>
-        ensures some { IfSome result (λ slot. at self.now number ≡ Some slot.now) }
+    // Whether a poll is owed, there is an SDU, and no byte waits.
+    fn may_wake(&self, poll_owed: bool) -> bool
+        ensures { IsTrue result ↔ (poll_owed ≡ true) × IsIdleList self.now }
+    {
+        if !poll_owed {
+            return false;
+        }
+        if self.kept_sdus.is_empty() {
+            return false;
+        }
+        !self.waits()
+    }
+
+    // The first maximal run of pending bytes of the lowest number that has some.
+    fn lowest_pending(&self) -> Option<Piece>
+        ensures some { IfSome result (IsPendingPiece self.now) }
+        ensures none { IfNone result (NonePending self.now) }
+    {
+        if let Some(piece) = pending_piece(self.next_ack, &self.kept_sdus, self.next_ack) {
+            return Some(piece);
+        }
+        let number = self.waiting.first()?;
+        pending_piece(self.next_ack, &self.kept_sdus, *number)
+    }
+
+    fn kept_sdu(&self, number: u64) -> Option<&KeptSdu>
+        ensures some { IfSome result (λ kept_sdu. at self.now number ≡ Some kept_sdu.now) }
         ensures none { IfNone result (at self.now number ≡ None) }
     {
         if number < self.next_ack {
             return None;
         }
         let index = (number - self.next_ack) as usize;
-        if index >= self.slots.len() {
+        if index >= self.kept_sdus.len() {
             return None;
         }
-        self.slots[index].as_ref()
+        self.kept_sdus[index].as_ref()
     }
 
     // The unsent bytes of the lowest number that has some.
@@ -319,36 +366,39 @@ impl TxBuffer {
         ensures inside { IfSome result (IsInside self.now) }
         ensures none { IfNone result (NoneUnsent self.now) }
     {
-        let slot = self.slot(self.unsent)?;
+        let kept_sdu = self.kept_sdu(self.unsent)?;
         Some(Piece {
             number: self.unsent,
-            from: slot.sent_len(),
-            to: slot.sdu_len(),
+            from: kept_sdu.sent_len(),
+            to: kept_sdu.sdu_len(),
         })
     }
 }
 
 // Whether the tag of an SDU has this local identity.
-fn bears_one(slot: &Option<Slot>, ue: LocalId) -> bool
-    ensures { MatchBool result (BearsOne slot.now ue) (BearsOne slot.now ue → ⊥) }
+fn bears_one(kept_sdu: &Option<KeptSdu>, ue: LocalId) -> bool
+    ensures { MatchBool result (BearsOne kept_sdu.now ue) (BearsOne kept_sdu.now ue → ⊥) }
 {
-    let Some(slot) = slot else {
+    let Some(kept_sdu) = kept_sdu else {
         return false;
     };
-    slot.tag().ue == Some(ue)
+    kept_sdu.tag().ue == Some(ue)
 }
 
 // The bytes of an SDU from `from` up to but without `to` are sent now. It answers whether all bytes of the SDU are.
-fn mark_slot(slot: &mut Option<Slot>, from: usize, to: usize) -> Result<bool, Memory>
-    requires some { slot.old ≢ None }
-    requires order { from ≤ to }
-    ensures ok { OnOk result (MarksSlot slot.old from to slot.new) }
-    ensures whole { IfOk result (λ whole. whole ≡ not (is_unsent slot.new)) }
-    ensures err { OnErr result (slot.new ≡ slot.old) }
+fn mark_kept(kept_sdu: &mut Option<KeptSdu>, from: usize, to: usize) -> Result<bool, Memory>
+    requires some { kept_sdu.old ≢ None }
+    requires order { from < to }
+    requires long { to ≤ LONGEST_RLC_SDU }
+    ensures ok { OnOk result (MarksKept kept_sdu.old from to kept_sdu.new) }
+    ensures whole { IfOk result (λ whole. whole ≡ not (is_unsent kept_sdu.new)) }
+    ensures err { OnErr result (kept_sdu.new ≡ kept_sdu.old) }
 {
-    let Some(slot) = slot else { unreachable!() };
-    slot.mark_sent(from, to)?;
-    Ok(!slot.is_unsent())
+    let Some(kept_sdu) = kept_sdu else {
+        unreachable!()
+    };
+    kept_sdu.mark_sent(from as u32, to as u32)?;
+    Ok(!kept_sdu.is_unsent())
 }
 
 // The lowest number with unsent bytes once an SDU was sent further, by whether all its bytes were sent.
@@ -363,12 +413,13 @@ fn unsent_behind(unsent: u64, number: u64, whole: bool) -> u64
 }
 
 // All bytes of an SDU become pending. It answers whether its RETX_COUNT came to the threshold.
-fn retransmit_slot(slot: &mut Option<Slot>, threshold: u8) -> bool
-    requires some { slot.old ≢ None }
-    requires count { increments (retx_of slot.old) < 2 ^ 64 }
-    ensures { Retransmits threshold (λ p. Unit {0}) slot.old result slot.new }
+fn retransmit_kept(kept_sdu: &mut Option<KeptSdu>, threshold: u8) -> bool
+    requires some { kept_sdu.old ≢ None }
+    requires sent { 0 < sent_of kept_sdu.old }
+    ensures { RetransmitsKept threshold kept_sdu.old result kept_sdu.new }
 {
-    let Some(slot) = slot else { unreachable!() };
-    let fresh = slot.pend(0, None);
-    slot.count(fresh, threshold)
+    let Some(kept_sdu) = kept_sdu else {
+        unreachable!()
+    };
+    kept_sdu.renew_all(threshold)
 }

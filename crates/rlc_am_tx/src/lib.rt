@@ -6,10 +6,10 @@ mod am_tx;
 mod beyond;
 mod buffer;
 mod elements;
-mod flags;
+mod kept_sdu;
+mod naming;
 mod pieces;
 mod polling;
-mod slot;
 
 pub use am_tx::{AmTx, GiveFault};
 pub use rlc_model::{StatusHeard, TagList, TxGrant};

@@ -1,6 +1,5 @@
 // Polling.
-ghost use Rattle.std.specs.Prelude.{◌≡◌, ◌+◌, ◌<◌, ◌^◌, None, false};
-ghost use Rattle.std.specs.Bool.{MatchBool};
+ghost use Rattle.std.specs.Prelude.{◌≡◌, ◌↔◌, ◌+◌, ◌<◌, ◌^◌, None, false, IsTrue};
 
 /// The variables of polling (TS 38.322 clauses 5.3.3, 7.1, 7.3 and 7.4).
 #[derive(Debug, Drop)]
@@ -8,7 +7,7 @@ pub(crate) struct Polling {
     /// pollPDU and pollByte, or 0 for never.
     pub(crate) poll_pdu: u32,
     pub(crate) poll_byte: u32,
-    pub(crate) pdu_without_poll: u64,
+    pub(crate) pdu_without_poll: u128,
     pub(crate) byte_without_poll: u128,
     pub(crate) poll_sn: Option<u64>,
     /// A poll is owed since t-PollRetransmit ran out.
@@ -17,7 +16,7 @@ pub(crate) struct Polling {
 }
 
 impl Polling {
-    ghost use Rattle.rlc_am_tx.specs.Polling.{IsDue, polled, unpolled, expired, StopsBelow};
+    ghost use Rattle.rlc_am_tx.specs.Polling.{PollIsDue, polled, unpolled, expired, StopsBelow};
 
     pub(crate) fn new(poll_pdu: u32, poll_byte: u32) -> Self
         ensures { result ≡ record { poll_pdu = poll_pdu; poll_byte = poll_byte; pdu_without_poll = 0; byte_without_poll = 0; poll_sn = None; poll_owed = false; poll_retransmit_runs = false } }
@@ -36,11 +35,11 @@ impl Polling {
     /// Whether a PDU of which so many bytes were unsent has a poll, whatever waits behind it (TS 38.322 clause
     /// 5.3.3.2).
     pub(crate) fn is_due(&self, fresh: usize) -> bool
-        requires pdus { self.now.pdu_without_poll + 1 < 2 ^ 64 }
+        requires pdus { self.now.pdu_without_poll + 1 < 2 ^ 128 }
         requires bytes { self.now.byte_without_poll + fresh < 2 ^ 128 }
-        ensures { MatchBool result (IsDue self.now fresh) (IsDue self.now fresh → ⊥) }
+        ensures { IsTrue result ↔ PollIsDue self.now fresh }
     {
-        let by_pdus = self.poll_pdu > 0 && self.pdu_without_poll + 1 >= u64::from(self.poll_pdu);
+        let by_pdus = self.poll_pdu > 0 && self.pdu_without_poll + 1 >= u128::from(self.poll_pdu);
         let by_bytes = self.poll_byte > 0
             && self.byte_without_poll + fresh as u128 >= u128::from(self.poll_byte);
         self.poll_owed || fresh > 0 && (by_pdus || by_bytes)
@@ -59,7 +58,7 @@ impl Polling {
 
     /// A PDU without a poll was sent, of which so many bytes were unsent (TS 38.322 clause 5.3.3.2).
     pub(crate) fn count(&mut self, fresh: usize)
-        requires pdus { self.old.pdu_without_poll + 1 < 2 ^ 64 }
+        requires pdus { self.old.pdu_without_poll + 1 < 2 ^ 128 }
         requires bytes { self.old.byte_without_poll + fresh < 2 ^ 128 }
         ensures { self.new ≡ unpolled self.old fresh }
     {

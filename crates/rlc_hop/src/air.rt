@@ -26,13 +26,13 @@ pub struct Air {
 impl Model for Air {
     ghost use Rattle.std.specs.Prelude.{List, Option};
     ghost use Rattle.rlc_model.specs.declared.hop.Pdu.{Pdu};
-    ghost use Rattle.rlc_hop.specs.Air.{IsCounted};
+    ghost use Rattle.rlc_hop.specs.Air.{AreCounted};
 
     ghost Value = { List (Option Pdu) };
 
     ghost view = { λ a. a.pdus.items };
 
-    ghost invariant = { IsCounted };
+    ghost invariant = { AreCounted };
 }
 
 impl Air {
@@ -54,7 +54,8 @@ impl Air {
     pub fn put(&mut self, pdu: Pdu) -> Result<u64, Memory>
         requires tickets { length self.old < 2 ^ 61 }
         requires room { count_by is_some self.old < 16384 }
-        ensures ok { IfOk result (λ ticket. (ticket ≡ length self.old + 1) × (self.new ≡ self.old ++ Some pdu ∷ [])) }
+        ensures ok { IfOk result
+            (λ ticket. (ticket ≡ length self.old + 1) × (self.new ≡ self.old ++ Some pdu ∷ [])) }
         ensures err { OnErr result (self.new ≡ self.old) }
     {
         self.pdus.push(Some(pdu))?;

@@ -1,10 +1,9 @@
 // What one side of a port, a transmitter and a receiver together, sends and hears.
-ghost use Rattle.std.specs.Prelude.{◌≡◌, ◌<◌, ◌≤◌, ◌^◌, true, IfOk, OnErr};
-ghost use Rattle.std.specs.Bool.{MatchBool};
+ghost use Rattle.std.specs.Prelude.{◌≡◌, ◌<◌, ◌≤◌, ◌^◌, ◌↔◌, true, IfOk, OnErr, IsTrue};
 ghost use Rattle.rlc_model.specs.Hop.{GrantsHop, HearsHop, IsControl};
 ghost use Rattle.rlc_model.specs.Rx.{status_due, rx_next};
 ghost use Rattle.rlc_model.specs.Tx.{tx_next};
-ghost use Rattle.rlc_hop.specs.Side.{SendsStatus, IsKeptOrReported, HearsData, HearsControl};
+ghost use Rattle.rlc_hop.specs.Side.{SendsStatus, SendsTruly, IsToSend, HearsData, HearsControl, ControlTakesMemory, DataTakesMemory, HearsNews};
 
 use crate::{HopGrant, HopHeard};
 use link_base::Memory;
@@ -24,12 +23,13 @@ const DATA_PDU: u8 = 0x80;
 /// `Idle` comes exactly where no STATUS is due and no byte waits, and `Small` exactly where the PDU that is next has more
 /// than `n` octets.
 ///
-/// An `Err` is want of memory. The transmitter is then as it was. So is the receiver, unless it made a STATUS whose octets
-/// had no memory: then none is triggered any more, and t-StatusProhibit runs.
+/// A STATUS PDU that is sent is true of the receiver. An `Err` is want of memory. It comes only where a PDU is to be sent and
+/// `n` octets are enough, and the transmitter and the receiver are then as they were.
 pub fn hop_grant(alloc: Global, tx: &mut AmTx, rx: &mut AmRx, n: u32) -> Result<HopGrant, Memory>
     ensures ok { IfOk result (λ answer. GrantsHop tx.old rx.old n answer tx.new rx.new) }
-    ensures err { OnErr result (tx.new ≡ tx.old) }
-    ensures report { OnErr result (IsKeptOrReported rx.old rx.new) }
+    ensures truth { IfOk result (SendsTruly rx.old n) }
+    ensures err { OnErr result ((tx.new ≡ tx.old) × (rx.new ≡ rx.old)) }
+    ensures memory { OnErr result (IsToSend tx.old rx.old n) }
 {
     if rx.status_due() {
         return send_status(alloc, rx, n);
@@ -49,12 +49,15 @@ pub fn hop_grant(alloc: Global, tx: &mut AmTx, rx: &mut AmRx, n: u32) -> Result<
 fn send_status(alloc: Global, rx: &mut AmRx, n: u32) -> Result<HopGrant, Memory>
     requires { status_due rx.old ≡ true }
     ensures ok { IfOk result (λ answer. SendsStatus rx.old n answer rx.new) }
-    ensures err { OnErr result (IsKeptOrReported rx.old rx.new) }
+    ensures truth { IfOk result (SendsTruly rx.old n) }
+    ensures err { OnErr result (rx.new ≡ rx.old) }
+    ensures memory { OnErr result (3 ≤ n) }
 {
-    match rx.make_status(n)? {
+    match rx.write_status(n)? {
         Made::Small { need } => Ok(HopGrant::Small { need }),
         Made::Full { status, ack } => {
             let bytes = encode_status(alloc, rx.size(), &status)?;
+            rx.begin_prohibit();
             Ok(HopGrant::Sent {
                 status: true,
                 number: ack,
@@ -67,7 +70,8 @@ fn send_status(alloc: Global, rx: &mut AmRx, n: u32) -> Result<HopGrant, Memory>
 /// Hears octets: the transmitter hears a STATUS PDU where there is an octet whose D/C is 0, else the receiver a data PDU
 /// (TS 38.322 clauses 5.2.3.2.2, 5.3.2 and 6.2.3.6). It needs TX_Next below 2^62 and RX_Next at most 2^62.
 ///
-/// An `Err` is want of memory, and the transmitter and the receiver are as they were.
+/// An `Err` is want of memory. It comes only where the octets are a STATUS PDU with an element, or one that confirms an SDU or
+/// makes bytes pending, or a data PDU that the receiver is to place. The transmitter and the receiver are then as they were.
 pub fn hop_hear(
     alloc: Global,
     tx: &mut AmTx,
@@ -78,6 +82,7 @@ pub fn hop_hear(
     requires heard { rx_next rx.old ≤ 2 ^ 62 }
     ensures ok { IfOk result (λ answer. HearsHop tx.old rx.old bytes.now answer tx.new rx.new) }
     ensures err { OnErr result ((tx.new ≡ tx.old) × (rx.new ≡ rx.old)) }
+    ensures memory { OnErr result (HearsNews tx.old rx.old bytes.now) }
 {
     if is_control(bytes) {
         hear_control(alloc, tx, bytes)
@@ -88,7 +93,7 @@ pub fn hop_hear(
 
 // Whether octets are a control PDU.
 fn is_control(bytes: &[u8]) -> bool
-    ensures { MatchBool result (IsControl bytes.now) (IsControl bytes.now → ⊥) }
+    ensures { IsTrue result ↔ IsControl bytes.now }
 {
     match bytes.first() {
         Some(&first) => first < DATA_PDU,
@@ -101,6 +106,7 @@ fn hear_control(alloc: Global, tx: &mut AmTx, bytes: &[u8]) -> Result<HopHeard, 
     requires { tx_next tx.old < 2 ^ 62 }
     ensures ok { IfOk result (λ answer. HearsControl tx.old bytes.now answer tx.new) }
     ensures err { OnErr result (tx.new ≡ tx.old) }
+    ensures memory { OnErr result (ControlTakesMemory tx.old bytes.now) }
 {
     match decode_status(alloc, tx.size(), bytes) {
         Ok(status) => {
@@ -117,6 +123,7 @@ fn hear_data(rx: &mut AmRx, bytes: &[u8]) -> Result<HopHeard, Memory>
     requires { rx_next rx.old ≤ 2 ^ 62 }
     ensures ok { IfOk result (λ answer. HearsData rx.old bytes.now answer rx.new) }
     ensures err { OnErr result (rx.new ≡ rx.old) }
+    ensures memory { OnErr result (DataTakesMemory rx.old bytes.now) }
 {
     match decode_amd(rx.size(), bytes) {
         Ok(pdu) => {

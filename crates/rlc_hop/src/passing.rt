@@ -1,7 +1,8 @@
 // Which PDUs on the air a side still hears.
 ghost use Rattle.std.specs.Prelude.{◌≡◌, IfErr, OnOk};
 ghost use Rattle.std.specs.declared.option.Option.TheVariants.{Some, None};
-ghost use Rattle.rlc_model.specs.Hop.{air_fault, is_stale};
+ghost use Rattle.rlc_model.specs.Air.{is_stale};
+ghost use Rattle.rlc_model.specs.Hop.{air_fault};
 
 use crate::{AirFault, Pdu};
 use link_base::SnSize;
@@ -30,12 +31,9 @@ pub fn may_pass(pdu: &Pdu, epoch: Option<u32>, next: u64, size: SnSize) -> Resul
 
 // Whether its sequence number would be read as that of another number.
 fn is_stale(pdu: &Pdu, next: u64, size: SnSize) -> bool
-    ensures { result ≡ is_stale size pdu.now next }
+    ensures { result ≡ is_stale size pdu.now.status pdu.now.number next }
 {
-    let window = match size {
-        SnSize::S12 => 2048,
-        SnSize::S18 => 131_072,
-    };
+    let window = size.window();
     let below = next.saturating_sub(pdu.number);
     if pdu.status {
         below >= window

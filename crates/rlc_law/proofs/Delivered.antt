@@ -1,5 +1,5 @@
 -- What is complete is what was heard, from the set of all that was delivered.
-use Rattle.std.proofs.Common.{◌≡◌, ◌≢◌, ◌⊎◌, inl, inr, ⊎_elim, ℕ, ◌-◌, ◌<◌, ◌≤◌, true, nat_lt, List, [], ◌∷◌, ◌++◌, length, get_or, slice_get, Option, Some, None, refl, sym, ◌∙◌, ap, subst, arith, lt-ltb}
+use Rattle.std.proofs.Common.{◌≡◌, ◌≢◌, ◌⊎◌, inl, inr, ⊎_elim, ℕ, ◌-◌, ◌<◌, ◌≤◌, true, nat_lt, false, List, [], ◌∷◌, ◌++◌, length, get_or, slice_get, Option, Some, None, refl, sym, ◌∙◌, ap, subst, arith, lt-ltb}
 use Rattle.std.proofs.lemmas.Bool.{cases_lt, cases_eq, cases_Bool, cond-true, cond-false, false≢true}
 use Rattle.std.proofs.lemmas.Option.{none-some, same_Some}
 use Rattle.std.proofs.lemmas.List.{ext_get_or, get_or_append_left}
@@ -12,9 +12,9 @@ use Rattle.rlc_model.specs.Rx.{Rx, Got, Done, Part, got, held_at, len_of, rx_nex
 use Rattle.rlc_model.specs.declared.receiver.Heard.{Heard}
 use Rattle.rlc_model.specs.declared.receiver.Heard.TheVariants.{Stored, Complete, Repeat, Outside, Conflict}
 use Rattle.rlc_model.specs.Air.{IsFresh}
-use Rattle.rlc_law.specs.Hop.{Hop, StatusMade, Completion, Event, Happens, gives, sends, reports, delivers, acknowledges, expires_poll, expires_reassembly, expires_prohibit, Reaches, start, completed_after, given_at}
+use Rattle.rlc_law.specs.Hop.{Hop, StatusMade, Completion, Event, Happens, gives, sends, makes_status, delivers, acknowledges, expires_poll, expires_reassembly, expires_prohibit, Reaches, start, completed_after, given_at}
 use Rattle.std.specs.List.{Contains}
-use Rattle.rlc_law.specs.Laws.{CompletesHeard, HeardAsGiven, HoldsHeard, KnowsHeardEnd}
+use Rattle.rlc_law.specs.Laws.{CompletesHeard, HeardAsGiven, HoldsHeard, KnowsHeardEnd, HearsSent}
 use Rattle.rlc_law.proofs.Base.{near_one, part_not_done, below_rx_next, done_below}
 use Rattle.rlc_law.proofs.Invariant.{at, Invariant}
 use Rattle.rlc_law.proofs.Bytes.{first_cases, byte_below, piece_byte, held_some}
@@ -101,7 +101,7 @@ module _ (h : Hop) (inv : Invariant h) (fits : Delivered h) where
     sent = fits.sent;
   }
 
-  module _ (d : Data) (r : Rx) (among : Contains h.pdus d) (fresh : IsFresh h.rx.size d.number (rx_next h.rx)) (completed : List Completion) where
+  module _ (d : Data) (r : Rx) (among : Contains h.pdus d) (fresh : IsFresh h.rx.size false d.number (rx_next h.rx)) (completed : List Completion) where
     own : (x : ℕ) → Near h.rx.size d.view.sn (rx_next h.rx) x → x ≡ d.number
     own x near = near_one h.rx.size d.view.sn (rx_next h.rx) x d.number near (own_number h inv d among fresh)
 
@@ -247,7 +247,7 @@ module _ (h : Hop) (inv : Invariant h) (fits : Delivered h) where
     }
 
   -- hearing a data PDU keeps it
-  delivers_fits : (d : Data) (r : Rx) → Contains h.pdus d → IsFresh h.rx.size d.number (rx_next h.rx) → (answer : Heard) → Hears h.rx d.view answer r → Invariant (record h { rx = r; completed = completed_after answer h.completed; heard = d ∷ h.heard }) → Delivered (record h { rx = r; completed = completed_after answer h.completed; heard = d ∷ h.heard })
+  delivers_fits : (d : Data) (r : Rx) → Contains h.pdus d → IsFresh h.rx.size false d.number (rx_next h.rx) → (answer : Heard) → Hears h.rx d.view answer r → Invariant (record h { rx = r; completed = completed_after answer h.completed; heard = d ∷ h.heard }) → Delivered (record h { rx = r; completed = completed_after answer h.completed; heard = d ∷ h.heard })
   delivers_fits d r among fresh Outside hears next = absurd (hears.0 d.number (own_number h inv d among fresh))
   delivers_fits d r among fresh Conflict hears next = absurd (no_conflict h.rx h.given hears.0 d.view inv.rx (subst (λ (n : ℕ). IsPiece (at h.given n) d.view) (sym (own d r among fresh h.completed hears.0 hears.1)) (piece d r among fresh h.completed)) hears.3)
   delivers_fits d r among fresh Repeat hears next =
@@ -272,7 +272,7 @@ delivered_each old e new reached fits x = go x (reaches_inv new (reaches_more ol
     go : {e : Event} {new : Hop} → Happens old e new → Invariant new → Delivered new
     go (gives {sdu = sdu} number t some small g) next = gives_fits old inv fits t sdu
     go (sends m v t s) next = same_fits old inv fits t old.rx refl old.statuses (record { number = m; view = v } ∷ old.pdus) (λ d among. contains_later (record { number = m; view = v }) old.pdus d among)
-    go (reports a s r m) next = other old.tx r (ap (λ (r : Rx). r.received) m.after) (record { ack = a; status = s } ∷ old.statuses)
+    go (makes_status a s r m) next = other old.tx r (ap (λ (r : Rx). r.received) m.after) (record { ack = a; status = s } ∷ old.statuses)
     go (delivers {d = d} answer r among fresh hears) next = delivers_fits old inv fits d r among fresh answer hears next
     go (acknowledges answer x among fresh hears) next = other x old.rx refl old.statuses
     go (expires_poll marks t x) next = other t old.rx refl old.statuses
@@ -331,3 +331,6 @@ holds_heard h run n p open_n = (
 
 pub knows_heard_end : KnowsHeardEnd
 knows_heard_end h run n l open_n = (λ is. (reaches_delivered h run).len n l is, λ has. (reaches_delivered h run).ends n l open_n has)
+
+pub hears_sent : HearsSent
+hears_sent h run = (reaches_delivered h run).sent

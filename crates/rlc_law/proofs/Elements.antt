@@ -9,8 +9,8 @@ use Rattle.rlc_status.specs.declared.status.Nack.{Nack}
 use Rattle.rlc_status.specs.declared.status.Status.{Status}
 use Rattle.rlc_status.specs.Format.{NackFits, AllFit, nack_len, nacks_len}
 use Rattle.rlc_model.specs.Rx.{Rx, got, held_at, len_of, rx_next}
-use Rattle.rlc_model.specs.Made.{IsWithin, last_place, Gaps, inner, last, Group, gaps, run, IsMissing, Reports, Writes, all, stops, group}
-use Rattle.rlc_law.specs.Receiver.{PartsFit, IsSound, ReportsTrue}
+use Rattle.rlc_model.specs.Made.{IsWithin, last_place, Gaps, inner, last, Group, gaps, run, IsMissing, WritesStatus, WritesNacks, all, stops, group}
+use Rattle.rlc_law.specs.Receiver.{PartsFit, IsSound, StatusIsTrue}
 use Rattle.std.proofs.lemmas.List.Sums.{sum_by-append}
 use Rattle.rlc_law.proofs.Receiver.{next_le_status}
 use Rattle.rlc_law.proofs.Truth.{none_of, this, count_run, group_y, writes_le, writes_true}
@@ -77,7 +77,7 @@ module _ (r : Rx) (parts : PartsFit r) (a m : ℕ) (below : m < a) (near : a ≤
   gaps_elements p [] le start g = tt
   gaps_elements p (e ∷ es) le start (inner x z first stop rest) =
       let apart : x ≢ z = λ same. stop.has (ap (held_at (got r m)) (sym same) ∙ first.has) in
-      let small : z < 65535 = parts.small m z stop.has in
+      let small : z < 65535 = omega (arith, parts.small m z stop.has) in
       let back : z - 1 + 1 ≡ z = omega (arith, stop.from) in (
         one_element x (z - 1) (omega (arith, stop.from)) (omega arith)
             (λ l is. omega (arith, parts.inside m l z is stop.has, stop.from))
@@ -113,7 +113,7 @@ module _ (r : Rx) (parts : PartsFit r) (a m : ℕ) (below : m < a) (near : a ≤
 
 module _ (r : Rx) (parts : PartsFit r) (low : ℕ) (wide : r.rx_highest_status ≤ low + modulus r.size) where
   -- all elements that are written can be read
-  pub writes_elements : (octets x : ℕ) (es : List Nack) (a : ℕ) → low ≤ x → x ≤ r.rx_highest_status → Writes r octets x es a → Each (ElementFits r a) es
+  pub writes_elements : (octets x : ℕ) (es : List Nack) (a : ℕ) → low ≤ x → x ≤ r.rx_highest_status → WritesNacks r octets x es a → Each (ElementFits r a) es
   writes_elements octets x es a from le (all finished) = tt
   writes_elements octets x es a from le (stops m y g first its long) = tt
   writes_elements octets x es a from le (group {rest = rest} m y g first its fits more) =
@@ -132,17 +132,17 @@ elements_fit r a [] h = tt
 elements_fit r a (e ∷ es) h = ((h.0).fits, elements_fit r a es h.1)
 
 -- they have at most the octets allowed
-writes_len : (r : Rx) (octets x : ℕ) (es : List Nack) (a : ℕ) → Writes r octets x es a → nacks_len r.size es ≤ octets
+writes_len : (r : Rx) (octets x : ℕ) (es : List Nack) (a : ℕ) → WritesNacks r octets x es a → nacks_len r.size es ≤ octets
 writes_len r octets x es a (all finished) = omega arith
 writes_len r octets x es a (stops m y g first its long) = omega arith
 writes_len r octets x es a (group {rest = rest} m y g first its fits more) = omega (arith, fits, writes_len r (octets - nacks_len r.size g) y rest a more, sum_by-append (nack_len r.size) g rest)
 
 -- the elements of a STATUS that a sound receiver makes can be read
-pub written : (old : Rx) → IsSound old → (n a : ℕ) (s : Status) (new : Rx) → Reports old n a s new → Each (ElementFits old a) s.nacks
+pub written : (old : Rx) → IsSound old → (n a : ℕ) (s : Status) (new : Rx) → WritesStatus old n a s new → Each (ElementFits old a) s.nacks
 written old sound n a s new x = writes_elements old sound.parts (rx_next old) (omega (arith, sound.limit, sound.within, two_windows old.size)) (n - 3) (rx_next old) s.nacks a (omega arith) (next_le_status old sound) x.writes
 
-pub reports_true : ReportsTrue
-reports_true old sound n a s new x =
+pub written_status_is_true : StatusIsTrue
+written_status_is_true old sound n a s new x =
     let le = next_le_status old sound in
     let bounds = writes_le old sound.parts (n - 3) (rx_next old) s.nacks a le x.writes in (
       writes_true old sound.parts (n - 3) a s le (omega (arith, sound.limit, sound.within)) x.writes,

@@ -18,8 +18,8 @@ use Rattle.rlc_law.proofs.Elements.{Each}
 use Rattle.rlc_law.proofs.Invariant.{at, NamesGiven, TxFits, RxFits, PdusFit, Confirms, CompletedFit, StatusesFit}
 use Rattle.link_base.specs.declared.rlc_words.Tag.{Tag}
 
--- an SDU in a longer list was there before or is the new one
-pub pushed : (xs : List (Option Kept)) (x : Option Kept) (n : ℕ) (k : Kept) → get_or (xs ++ x ∷ []) n None ≡ Some k → (get_or xs n None ≡ Some k) ⊎ ((n ≡ length xs) × (x ≡ Some k))
+-- what is found in a longer list was there before or is the new one
+pub pushed : {X : Type 0} (xs : List (Option X)) (x : Option X) (n : ℕ) (k : X) → get_or (xs ++ x ∷ []) n None ≡ Some k → (get_or xs n None ≡ Some k) ⊎ ((n ≡ length xs) × (x ≡ Some k))
 pushed xs x n k h = elim (cases_order n (length xs)) [
   | inl e ↦ inr (e, sym (get_or_push xs x None n (sym e)) ∙ h)
   | inr (inl lt) ↦ inl (sym (get_or_append_left xs (x ∷ []) None n lt) ∙ h)

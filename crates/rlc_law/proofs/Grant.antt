@@ -4,7 +4,7 @@ use Rattle.std.proofs.lemmas.Bool.{cases_eq}
 use Rattle.std.proofs.lemmas.Option.{none-some, same_Some}
 use Rattle.link_base.specs.declared.names.SnSize.{SnSize}
 use Rattle.link_base.specs.SequenceNumbers.{window}
-use Rattle.rlc_pdu.specs.Amd.{Amd, Fits}
+use Rattle.rlc_pdu.specs.Amd.{Amd, AmdFits}
 use Rattle.rlc_model.specs.Pdu.{IsPiece}
 use Rattle.rlc_model.specs.Heard.{Data}
 use Rattle.rlc_model.specs.Tx.{Tx, Kept, kept_at, tx_next, IsNext, pending, unsent, Sends}
@@ -72,7 +72,7 @@ module _ (old new : Tx) (n m : ℕ) (v : Amd) (given : List (List ℕ)) (fits : 
     piece = subst (λ (d : List ℕ). IsPiece d v) (fits.sdu m s.kept was)
         (subst (IsPiece s.kept.sdu) (sym s.view)
         (piece_is_piece old.size m s.kept.sdu s.a s.e v.poll (sends_some old n m v new s) (sends_within old n m v new s (fits.sent m s.kept was))));
-    fits = subst (Fits old.size) (sym s.view) (piece_fits old.size m s.kept.sdu s.a s.e v.poll (sends_some old n m v new s) (sends_within old n m v new s (fits.sent m s.kept was))
+    fits = subst (AmdFits old.size) (sym s.view) (piece_fits old.size m s.kept.sdu s.a s.e v.poll (sends_some old n m v new s) (sends_within old n m v new s (fits.sent m s.kept was))
         (subst (λ (d : List ℕ). length d ≤ 9005) (sym (fits.sdu m s.kept was)) (small m (omega (arith, fits.long, kept_below old m s.kept was)))));
   }
 

@@ -2,11 +2,11 @@
 use Rattle.std.proofs.Common.{◌≡◌, ◌≢◌, ◌⊎◌, inl, inr, ℕ, ◌+◌, ◌-◌, ◌%◌, ◌<◌, ◌≤◌, Bool, true, false, ◌||◌, List, [], ◌∷◌, ◌++◌, length, Option, Some, None, refl, sym, ◌∙◌, ap, subst, arith}
 use Rattle.std.proofs.lemmas.Option.{none-some, same_Some}
 use Rattle.std.proofs.lemmas.Bool.{cases_lt, cases_eq}
-use Rattle.rlc_model.specs.Made.{IsWithin, Reports}
+use Rattle.rlc_model.specs.Made.{IsWithin, WritesStatus}
 use Rattle.rlc_law.proofs.Lists.{contains_nil, contains_cases}
 use Rattle.rlc_law.proofs.Bytes.{held_some}
 use Rattle.rlc_law.proofs.Hear.{stays_confirms, stays_statuses, with_rx, with_completions, stores_rx, stores_completions, completes_rx, completes_completions}
-use Rattle.rlc_law.proofs.Elements.{Each, ElementFits, written, reports_true}
+use Rattle.rlc_law.proofs.Elements.{Each, ElementFits, written, written_status_is_true}
 use Rattle.link_base.specs.declared.names.SnSize.{SnSize}
 use Rattle.link_base.specs.SequenceNumbers.{modulus, Near}
 use Rattle.rlc_pdu.specs.Amd.{Amd}
@@ -24,8 +24,8 @@ use Rattle.rlc_model.specs.Rx.{Rx, Done, got, held_at, len_of, rx_next_highest, 
 use Rattle.rlc_model.specs.declared.receiver.Heard.{Heard}
 use Rattle.rlc_model.specs.declared.receiver.Heard.TheVariants.{Stored, Complete, Repeat, Outside, Conflict}
 use Rattle.rlc_law.proofs.Receiver.{with, first_within, stores_stays, completes_stays, with_ok, hears_ok, starts_sound}
-use Rattle.rlc_model.specs.Air.{IsFresh, IsFreshStatus}
-use Rattle.rlc_law.specs.Hop.{Hop, StatusMade, Event, Happens, gives, sends, reports, delivers, acknowledges, expires_poll, expires_reassembly, expires_prohibit, Reaches, start, completed_after}
+use Rattle.rlc_model.specs.Air.{IsFresh}
+use Rattle.rlc_law.specs.Hop.{Hop, StatusMade, Event, Happens, gives, sends, makes_status, delivers, acknowledges, expires_poll, expires_reassembly, expires_prohibit, Reaches, start, completed_after}
 use Rattle.std.specs.List.{Contains}
 use Rattle.rlc_law.proofs.Runs.{everywhere}
 use Rattle.rlc_law.proofs.Base.{near_one, part_not_done}
@@ -37,14 +37,14 @@ use Rattle.rlc_law.proofs.Invariant.{at, RxFits, PdusFit, Confirms, NamesGiven, 
 use Rattle.link_base.specs.declared.rlc_words.Tag.{Tag}
 
 -- a data PDU that isn't stale is read under its own number
-pub own_number : (h : Hop) → Invariant h → (d : Data) → Contains h.pdus d → IsFresh h.rx.size d.number (rx_next h.rx) → Near h.rx.size d.view.sn (rx_next h.rx) d.number
+pub own_number : (h : Hop) → Invariant h → (d : Data) → Contains h.pdus d → IsFresh h.rx.size false d.number (rx_next h.rx) → Near h.rx.size d.view.sn (rx_next h.rx) d.number
 own_number h inv d among fresh =
     let is = inv.pdus d among in
     subst (λ (sn : ℕ). Near h.rx.size sn (rx_next h.rx) d.number) (ap (λ (z : SnSize). d.number % modulus z) inv.size ∙ sym is.sn)
     (reads_number h.tx h.rx h.given inv.tx inv.confirms inv.size d.number is.number fresh)
 
 -- a STATUS that isn't stale is read with its own ACK
-pub own_ack : (h : Hop) → Invariant h → (t : StatusMade) → Contains h.statuses t → IsFreshStatus h.tx.size t.ack (tx_next_ack h.tx) → Near h.tx.size t.status.ack (tx_next_ack h.tx + 1) t.ack
+pub own_ack : (h : Hop) → Invariant h → (t : StatusMade) → Contains h.statuses t → IsFresh h.tx.size true t.ack (tx_next_ack h.tx) → Near h.tx.size t.status.ack (tx_next_ack h.tx + 1) t.ack
 own_ack h inv t among fresh =
     let is = inv.statuses t among in
     subst (λ (sn : ℕ). Near h.tx.size sn (tx_next_ack h.tx + 1) t.ack) (ap (λ (z : SnSize). t.ack % modulus z) (sym inv.size) ∙ sym is.sn)
@@ -105,7 +105,7 @@ module _ (h : Hop) (inv : Invariant h) where
   polled : (v : Amd) (r : Rx) → PollsAtOnce h.rx v r → Invariant (record h { rx = r })
   polled v r is = keeps_entries r h.rx.rx_highest_status h.rx.rx_next_status_trigger (h.rx.status_triggered || v.poll) h.rx.delayed_polls h.rx.status_prohibit_runs is inv.sound.highest_status inv.sound.limit inv.sound.trigger
 
-  module _ (d : Data) (r : Rx) (among : Contains h.pdus d) (fresh : IsFresh h.rx.size d.number (rx_next h.rx)) where
+  module _ (d : Data) (r : Rx) (among : Contains h.pdus d) (fresh : IsFresh h.rx.size false d.number (rx_next h.rx)) where
     own : (x : ℕ) → Near h.rx.size d.view.sn (rx_next h.rx) x → x ≡ d.number
     own x near = near_one h.rx.size d.view.sn (rx_next h.rx) x d.number near (own_number h inv d among fresh)
 
@@ -166,7 +166,7 @@ module _ (h : Hop) (inv : Invariant h) where
     statuses = inv.statuses;
   }
 
-  module _ (t : StatusMade) (x : Tx) (among : Contains h.statuses t) (fresh : IsFreshStatus h.tx.size t.ack (tx_next_ack h.tx)) where
+  module _ (t : StatusMade) (x : Tx) (among : Contains h.statuses t) (fresh : IsFresh h.tx.size true t.ack (tx_next_ack h.tx)) where
     acknowledged : (answer : StatusHeard) → HearsStatus h.tx t.status answer x → Invariant (record h { tx = x })
     acknowledged (Beyond sn sent) hears = subst (λ (x : Tx). Invariant (record h { tx = x })) (sym hears.3) inv
     acknowledged (Old a next) hears = subst (λ (x : Tx). Invariant (record h { tx = x })) (sym hears.4) inv
@@ -205,13 +205,13 @@ module _ (h : Hop) (inv : Invariant h) where
   }
 
   -- a STATUS that is made has an ACK up to RX_Highest_Status
-  pub at_most : (n : ℕ) (r : Rx) (a : ℕ) (s : Status) → Reports h.rx n a s r → a ≤ h.rx.rx_highest_status
-  at_most n r a s m = (reports_true h.rx inv.sound n a s r m).4
+  pub at_most : (n : ℕ) (r : Rx) (a : ℕ) (s : Status) → WritesStatus h.rx n a s r → a ≤ h.rx.rx_highest_status
+  at_most n r a s m = (written_status_is_true h.rx inv.sound n a s r m).4
 
   -- it speaks truly
-  pub status_holds : (n : ℕ) (r : Rx) (a : ℕ) (s : Status) → Reports h.rx n a s r → StatusHolds h.rx h.given (record { ack = a; status = s })
+  pub status_holds : (n : ℕ) (r : Rx) (a : ℕ) (s : Status) → WritesStatus h.rx n a s r → StatusHolds h.rx h.given (record { ack = a; status = s })
   status_holds n r a s m =
-      let true_s = reports_true h.rx inv.sound n a s r m in
+      let true_s = written_status_is_true h.rx inv.sound n a s r m in
       let given_a : a ≤ length h.given = omega (arith, at_most n r a s m, inv.sound.limit, inv.rx.long) in
       record {
         ack = given_a;
@@ -222,7 +222,7 @@ module _ (h : Hop) (inv : Invariant h) where
       }
 
   -- making a STATUS keeps the invariant
-  reported : {n : ℕ} (a : ℕ) (s : Status) (r : Rx) → Reports h.rx n a s r → Invariant (record h { rx = r; statuses = record { ack = a; status = s } ∷ h.statuses })
+  reported : {n : ℕ} (a : ℕ) (s : Status) (r : Rx) → WritesStatus h.rx n a s r → Invariant (record h { rx = r; statuses = record { ack = a; status = s } ∷ h.statuses })
   reported {n} a s r m =
       let rest = keeps_entries r h.rx.rx_highest_status h.rx.rx_next_status_trigger false h.rx.delayed_polls true m.after inv.sound.highest_status inv.sound.limit inv.sound.trigger in
       let size : r.size ≡ h.rx.size = ap (λ (r : Rx). r.size) m.after in
@@ -265,7 +265,7 @@ reheard h heard inv = record { size = inv.size; tx = inv.tx; rx = inv.rx; sound 
 pub keeps_each : (old : Hop) (e : Event) (new : Hop) → Invariant old → Happens old e new → Invariant new
 keeps_each old e new inv (gives number t some small g) = given_more old inv number t some small g
 keeps_each old e new inv (sends m v t s) = sent_more old inv m v t s
-keeps_each old e new inv (reports a s r m) = reported old inv a s r m
+keeps_each old e new inv (makes_status a s r m) = reported old inv a s r m
 keeps_each old e new inv (delivers {d = d} answer r among fresh hears) = reheard (record old { rx = r; completed = completed_after answer old.completed }) (d ∷ old.heard) (delivered old inv d r among fresh answer hears)
 keeps_each old e new inv (acknowledges {t = t} answer x among fresh hears) = acknowledged old inv t x among fresh answer hears
 keeps_each old e new inv (expires_poll marks t x) = keeps_inv old inv t (expires_keeps old.tx marks t x) (expires_confirms old.tx marks t x old.rx inv.confirms)

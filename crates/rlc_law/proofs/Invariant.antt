@@ -3,7 +3,7 @@ use Rattle.std.proofs.Common.{◌≡◌, ◌≢◌, ◌⊎◌, ℕ, ◌+◌, ◌
 use Rattle.link_base.specs.declared.names.SnSize.{SnSize}
 use Rattle.link_base.specs.SequenceNumbers.{window, modulus}
 use Rattle.rlc_status.specs.Says.{IsGreatest, SaysReceived, count}
-use Rattle.rlc_pdu.specs.Amd.{Fits}
+use Rattle.rlc_pdu.specs.Amd.{AmdFits}
 use Rattle.rlc_model.specs.Pdu.{IsPiece}
 use Rattle.rlc_status.specs.declared.status.Nack.{Nack}
 use Rattle.rlc_status.specs.Format.{StatusFits}
@@ -38,7 +38,7 @@ pub record IsSentAs (size : SnSize) (given : List (List ℕ)) (d : Data) : Type 
   pub number : d.number < length given
   pub sn : d.view.sn ≡ d.number % modulus size
   pub piece : IsPiece (at given d.number) d.view
-  pub fits : Fits size d.view
+  pub fits : AmdFits size d.view
 
 -- all data PDUs are such
 abbrev pub PdusFit : SnSize → List (List ℕ) → List Data → Type 0

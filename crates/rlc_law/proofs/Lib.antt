@@ -6,6 +6,7 @@ pub mod Receiver
 pub mod Truth
 pub mod Elements
 pub mod Invariant
+pub mod Fresh
 pub mod Windows
 pub mod Pieces
 pub mod Give
@@ -18,7 +19,11 @@ pub mod Sending
 pub mod Delivered
 pub mod Order
 pub mod Bounded
-pub mod Hops
+pub mod Sized
+pub mod Moving
+pub mod Hearing
+pub mod Crossing
+pub mod Opening
 pub mod Unique
 pub mod OneReceiver
 pub mod OneReport

@@ -6,7 +6,7 @@ use Rattle.rlc_status.specs.Format.{nacks_len}
 use Rattle.rlc_model.specs.declared.receiver.Made.TheVariants.{Full, Small}
 use Rattle.rlc_model.specs.Numbers.{IsFirst}
 use Rattle.rlc_model.specs.Rx.{Rx, Got, Done, got, held_at, len_of, rx_next}
-use Rattle.rlc_model.specs.Made.{HoldsSome, last_place, Gaps, full, inner, last, IsMissing, Group, gaps, run, Writes, all, stops, group}
+use Rattle.rlc_model.specs.Made.{HoldsSome, last_place, Gaps, full, inner, last, IsMissing, Group, gaps, run, WritesNacks, all, stops, group}
 use Rattle.rlc_law.specs.OneOutcome.{OneReport}
 use Rattle.rlc_law.proofs.Unique.{first_one}
 
@@ -61,7 +61,7 @@ module _ (r : Rx) (inside : (n l p : ℕ) → len_of (got r n) ≡ Some l → he
       (same, its ∙ ap (λ (y : ℕ). ranged m y) same ∙ sym its')
 
   -- all that is written, and the ACK
-  writes_one : (octets x : ℕ) (es fs : List Nack) (a b : ℕ) → Writes r octets x es a → Writes r octets x fs b → (es ≡ fs) × (a ≡ b)
+  writes_one : (octets x : ℕ) (es fs : List Nack) (a b : ℕ) → WritesNacks r octets x es a → WritesNacks r octets x fs b → (es ≡ fs) × (a ≡ b)
   writes_one octets x es fs a b (all none) (all none') = (refl, refl)
   writes_one octets x es fs a b (all none) (stops m y g first its long) = absurd (none m first.from first.has)
   writes_one octets x es fs a b (all none) (group m y g first its fits more) = absurd (none m first.from first.has)
@@ -80,7 +80,7 @@ module _ (r : Rx) (inside : (n l p : ℕ) → len_of (got r n) ≡ Some l → he
       let same : m' ≡ m = first_one (IsMissing r) x m' m first' first in
       let groups = group_one m y y' g g' its (subst (λ (n : ℕ). Group r n y' g') same its') in
       let behind = writes_one (octets - nacks_len r.size g) y rest rest' a b more
-      (subst (λ (n : ℕ). Writes r n y rest' b) (ap (λ (l : List Nack). octets - nacks_len r.size l) (sym groups.1)) (subst (λ (n : ℕ). Writes r (octets - nacks_len r.size g') n rest' b) (sym groups.0) more')) in
+      (subst (λ (n : ℕ). WritesNacks r n y rest' b) (ap (λ (l : List Nack). octets - nacks_len r.size l) (sym groups.1)) (subst (λ (n : ℕ). WritesNacks r (octets - nacks_len r.size g') n rest' b) (sym groups.0) more')) in
       (ap (λ (l : List Nack). l ++ rest) groups.1 ∙ ap (λ (l : List Nack). g' ++ l) behind.0, behind.1)
 
 pub one_report : OneReport

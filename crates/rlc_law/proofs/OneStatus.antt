@@ -1,5 +1,5 @@
 -- Hearing a STATUS and the expiry of t-PollRetransmit have at most one outcome.
-use Rattle.std.proofs.Common.{◌≡◌, ◌⊎◌, inl, inr, ℕ, ◌+◌, ◌<◌, Bool, false, List, [], ◌∷◌, ◌++◌, length, get_or, Option, Some, None, sym, ◌∙◌, ap, subst, arith}
+use Rattle.std.proofs.Common.{◌≡◌, ◌⊎◌, inl, inr, ℕ, ◌+◌, ◌<◌, min, Bool, false, List, [], ◌∷◌, ◌++◌, length, get_or, Option, Some, None, sym, ◌∙◌, ap, subst, arith}
 use Rattle.std.specs.List.{Contains}
 use Rattle.std.proofs.lemmas.Bool.{cases_Bool, cases_eq, false≢true}
 use Rattle.std.proofs.lemmas.List.{ext_get_or}
@@ -43,7 +43,7 @@ module _ (threshold : ℕ) (named : ℕ → Type 0) (k j j' : Kept) (M M' : Type
   counts_one (again c p was before after is mark) (first was' is' mark') = absurd (none-some c (sym was' ∙ was))
   counts_one (again c p was before after is mark) (again d q was' before' after' is' mark') =
       let same : c ≡ d = same_Some c d (sym was ∙ was') in
-      (is ∙ ap (λ (n : ℕ). Some (n + 1)) same ∙ sym is', λ m. mark'.1 (mark.0 m ∙ ap (λ (n : ℕ). n + 1) same), λ m. mark.1 (mark'.0 m ∙ ap (λ (n : ℕ). n + 1) (sym same)))
+      (is ∙ ap (λ (n : ℕ). Some (min (n + 1) (threshold + 1))) same ∙ sym is', λ m. mark'.1 (mark.0 m ∙ ap (λ (n : ℕ). n + 1) same), λ m. mark.1 (mark'.0 m ∙ ap (λ (n : ℕ). n + 1) (sym same)))
   counts_one (again c p was before after is mark) (count_stays d was' none is' mark') = absurd (false≢true (sym before ∙ none p (sym (flag_one p) ∙ after)))
   counts_one (count_stays c was none is mark) (first was' is' mark') = absurd (none-some c (sym was' ∙ was))
   counts_one (count_stays c was none is mark) (again d q was' before' after' is' mark') = absurd (false≢true (sym before' ∙ none q (flag_one q ∙ after')))

@@ -5,7 +5,7 @@ use Rattle.std.proofs.lemmas.List.{ext_get_or}
 use Rattle.std.proofs.lemmas.Option.{same_Some}
 use Rattle.link_base.specs.declared.names.SnSize.{SnSize}
 use Rattle.link_base.specs.SequenceNumbers.{window}
-use Rattle.rlc_pdu.specs.Amd.{Amd, bytes_of}
+use Rattle.rlc_pdu.specs.Amd.{Amd, amd_bytes}
 use Rattle.rlc_model.specs.declared.transmitter.TxGrant.TheVariants.{Sent, Idle, Small}
 use Rattle.rlc_model.specs.Numbers.{IsFirstRun}
 use Rattle.rlc_model.specs.Pdu.{piece}
@@ -191,4 +191,4 @@ one_grant old n (Sent m bytes) (Small need) r s f g =
 one_grant old n (Sent m bytes) (Sent m' bytes') r s f g =
     let views = view_same old n m m' f.0 g.0 r s f.2 g.2 in
     let numbers = (next_same old n m m' f.0 g.0 r s f.2 g.2).0 in
-    (ap (λ (k : ℕ). Sent k bytes) numbers ∙ ap (λ (l : List ℕ). Sent m' l) (f.1 ∙ ap (bytes_of old.size) views ∙ sym g.1), sends_one old n m m' f.0 g.0 r s f.2 g.2)
+    (ap (λ (k : ℕ). Sent k bytes) numbers ∙ ap (λ (l : List ℕ). Sent m' l) (f.1 ∙ ap (amd_bytes old.size) views ∙ sym g.1), sends_one old n m m' f.0 g.0 r s f.2 g.2)

@@ -12,7 +12,7 @@ use Rattle.rlc_model.specs.declared.transmitter.StatusHeard.TheVariants.{Acked, 
 use Rattle.rlc_model.specs.Heard.{Data}
 use Rattle.rlc_model.specs.Tx.{Tx, Kept, kept_at, tx_next, is_unsent, is_sent, IsSent, Gives, IsNext, pending, unsent, Sends}
 use Rattle.rlc_model.specs.Retransmission.{HearsStatus}
-use Rattle.rlc_law.specs.Hop.{Hop, StatusMade, Event, Happens, gives, sends, reports, delivers, acknowledges, expires_poll, expires_reassembly, expires_prohibit, Reaches, start}
+use Rattle.rlc_law.specs.Hop.{Hop, StatusMade, Event, Happens, gives, sends, makes_status, delivers, acknowledges, expires_poll, expires_reassembly, expires_prohibit, Reaches, start}
 use Rattle.rlc_law.specs.Laws.{SendsInOrder}
 use Rattle.rlc_law.proofs.Lists.{contains_here, contains_later}
 use Rattle.rlc_law.proofs.Runs.{reaches_more, everywhere}
@@ -143,7 +143,7 @@ ordered_each old e new reached o x = go x (reaches_inv new (reaches_more old e n
     go : {e : Event} {new : Hop} → Happens old e new → Invariant new → Ordered new
     go (gives {tag = tag} {sdu = sdu} number t some small g) next = same_order old t (old.given ++ sdu ∷ []) (grows_gives old.tx t tag sdu number g).sent (gives_sent old.tx t tag sdu number g) o
     go (sends {n = n} m v t s) next = sends_order old inv o n m v t s
-    go (reports a s r m) next = record { closed = o.closed; made = o.made; order = o.order }
+    go (makes_status a s r m) next = record { closed = o.closed; made = o.made; order = o.order }
     go (delivers answer r among fresh hears) next = record { closed = o.closed; made = o.made; order = o.order }
     go (acknowledges {t = t} answer x among fresh hears) next = heard t answer x hears next
     go (expires_poll marks t x) next = kept t (expires_keeps old.tx marks t x) next

@@ -3,7 +3,7 @@ use Rattle.std.proofs.Common.{◌≡◌, ◌≢◌, inl, inr, ℕ, ◌-◌, ◌<
 use Rattle.std.proofs.lemmas.List.{length-take-le, get_or-take, get_or-drop, get_or_past}
 use Rattle.std.proofs.lemmas.Bool.{cases_lt, cases_Bool, false≢true, ltb-true, eqb-false}
 use Rattle.link_base.specs.declared.names.SnSize.{SnSize}
-use Rattle.rlc_pdu.specs.Amd.{Amd, Fits, IsOffset}
+use Rattle.rlc_pdu.specs.Amd.{Amd, AmdFits, IsOffset}
 use Rattle.rlc_model.specs.Pdu.{IsPiece, piece, si_of, is_end}
 use Rattle.rlc_model.specs.Numbers.{IsFirstRun}
 use Rattle.rlc_law.proofs.Base.{mod_below}
@@ -46,7 +46,7 @@ offset_fits a ends = elim (cases_Bool (eqb a 0)) [
     later false ne = omega (arith, ne)
 
 -- a piece fits its format
-pub piece_fits : (s : SnSize) (number : ℕ) (sdu : List ℕ) (a e : ℕ) (poll : Bool) → a < e → e ≤ length sdu → length sdu ≤ 9005 → Fits s (piece s number sdu a e poll)
+pub piece_fits : (s : SnSize) (number : ℕ) (sdu : List ℕ) (a e : ℕ) (poll : Bool) → a < e → e ≤ length sdu → length sdu ≤ 9005 → AmdFits s (piece s number sdu a e poll)
 piece_fits s number sdu a e poll some within small =
     let long : length (take (e - a) (drop a sdu)) ≡ e - a = length-take-le (e - a) (drop a sdu) (omega (arith, length-drop a sdu)) in
     record { sn = mod_below s number; offset = offset_fits a (eqb e (length sdu)); some = omega (arith, long); end = omega (arith, long) }

@@ -3,6 +3,7 @@ use Rattle.std.proofs.Common.{◌≡◌, ◌≢◌, inl, inr, ℕ, ◌+◌, ◌<
 use Rattle.std.proofs.lemmas.Bool.{cases_lt, cases_eq, cases_Bool, cond-true, cond-false}
 use Rattle.std.proofs.lemmas.Option.{none-some, same_Some}
 use Rattle.link_base.specs.SequenceNumbers.{window}
+use Rattle.link_base.specs.declared.limits.TheConstants.{LONGEST_RLC_SDU}
 use Rattle.rlc_pdu.specs.Amd.{Amd}
 use Rattle.rlc_model.specs.declared.receiver.Heard.{Heard}
 use Rattle.rlc_model.specs.declared.receiver.Heard.TheVariants.{Stored, Complete, Repeat, Outside, Conflict}
@@ -10,7 +11,7 @@ use Rattle.rlc_model.specs.Numbers.{IsFirst}
 use Rattle.rlc_model.specs.Pdu.{end_of, is_end, byte_at}
 use Rattle.rlc_model.specs.Rx.{Rx, Got, Done, Part, got, held_at, len_of, rx_next_highest, rx_next, Enters, Reassembles, runs_on, starts, rests, IsConflict, held_past, past_length, PollsAtOnce, Stores, Completes, Hears, ExpiresReassembly}
 use Rattle.rlc_model.specs.Made.{IsWithin}
-use Rattle.rlc_law.specs.Receiver.{IsSound, hears, reports, expires_reassembly, expires_prohibit, StartsSound, StaysSound}
+use Rattle.rlc_law.specs.Receiver.{IsSound, hears, makes_status, expires_reassembly, expires_prohibit, StartsSound, StaysSound}
 use Rattle.rlc_law.proofs.Base.{past_highest, part_not_done, below_rx_next, at_rx_next, window_pos}
 use Rattle.rlc_law.proofs.Bytes.{held_some, first_cases, byte_below}
 
@@ -73,7 +74,7 @@ module _ (old new : Rx) (x : ℕ) (v : Amd) (ok : IsSound old) (fits : end_of v 
   within_ok g enters stays size = omega (arith, enters.long, ok.within, high, stays_next old new stays, ap window size)
 
   module _ (s : Stores old x v new) (not_done : got old x ≢ Done) (fine : IsConflict (got old x) v → ⊥) where
-    placed_known : (l : ℕ) → s.len ≡ Some l → l ≤ 65535
+    placed_known : (l : ℕ) → s.len ≡ Some l → l ≤ LONGEST_RLC_SDU
     placed_known l is = elim (cases_Bool (is_end v.si)) [
       | inl ends ↦ omega (arith, same_Some l (end_of v) (sym is ∙ s.places.its_length ∙ cond-true (is_end v.si) (Some (end_of v)) (len_of (got old x)) ends))
       | inr goes_on ↦ ok.parts.known x l (sym (cond-false (is_end v.si) (Some (end_of v)) (len_of (got old x)) goes_on) ∙ sym s.places.its_length ∙ is)
@@ -104,7 +105,7 @@ module _ (old new : Rx) (x : ℕ) (v : Amd) (ok : IsSound old) (fits : end_of v 
               ]
         ]
 
-    placed_small : (p : ℕ) → get_or s.held p None ≢ None → p < 65535
+    placed_small : (p : ℕ) → get_or s.held p None ≢ None → p < LONGEST_RLC_SDU
     placed_small p h =
         let b = held_some _ h in
         elim (first_cases (held_at (got old x) p) (byte_at v p) b.0 (sym (s.places.bytes p) ∙ b.1)) [
@@ -112,7 +113,7 @@ module _ (old new : Rx) (x : ℕ) (v : Amd) (ok : IsSound old) (fits : end_of v 
           | inr e ↦ omega (arith, byte_below v p b.0 e)
         ]
 
-    stores_small : (n p : ℕ) → held_at (got new n) p ≢ None → p < 65535
+    stores_small : (n p : ℕ) → held_at (got new n) p ≢ None → p < LONGEST_RLC_SDU
     stores_small n p h = elim (cases_eq n x) [
       | inl e ↦ placed_small p (λ none. h (ap (λ (g : Got). held_at g p) (ap (got new) e ∙ s.enters.this) ∙ none))
       | inr ne ↦ ok.parts.small n p (λ none. h (ap (λ (g : Got). held_at g p) (s.enters.others n ne) ∙ none))
@@ -207,7 +208,7 @@ hears_ok old new v (Complete n sdu) ok fits x = completes_ok old new n v ok fits
 
 pub stays_sound : StaysSound
 stays_sound old new ok (hears v answer fits x) = hears_ok old new v answer ok fits.end x
-stays_sound old new ok (reports n a s x) = subst IsSound (sym x.after) (with_ok old old.rx_next_status_trigger false old.delayed_polls true old.rx_highest_status ok ok.highest_status ok.limit ok.trigger)
+stays_sound old new ok (makes_status n a s x) = subst IsSound (sym x.after) (with_ok old old.rx_next_status_trigger false old.delayed_polls true old.rx_highest_status ok ok.highest_status ok.limit ok.trigger)
 stays_sound old new ok (expires_reassembly x) = expires_ok old new ok x
 stays_sound old new ok (expires_prohibit x) = subst IsSound (sym x.is) (with_ok old old.rx_next_status_trigger old.status_triggered old.delayed_polls false old.rx_highest_status ok ok.highest_status ok.limit ok.trigger)
 

@@ -5,9 +5,9 @@ use Rattle.rlc_pdu.specs.Amd.{Amd}
 use Rattle.rlc_model.specs.Pdu.{IsPiece, end_of}
 use Rattle.rlc_model.specs.Tx.{tx_next_ack}
 use Rattle.rlc_model.specs.Rx.{Rx, got, held_at, rx_next, IsConflict, other_length, held_past, past_length, no_last}
-use Rattle.rlc_law.specs.Laws.{SendsPieces, CompletesAsGiven, CompletesOnce, ConfirmsComplete, ReadsOwnNumber, ReadsOwnAck, MakesTrue, StaysTrue, NoneOutside}
+use Rattle.rlc_law.specs.Laws.{SendsPieces, CompletesAsGiven, CompletesOnce, ConfirmsComplete, ReadsOwnNumber, ReadsOwnAck, MakesTrue, StaysTrue, NoneOutside, GivesInOrder, KeepsGiven}
 use Rattle.rlc_law.proofs.Bytes.{held_some}
-use Rattle.rlc_law.proofs.Elements.{reports_true}
+use Rattle.rlc_law.proofs.Elements.{written_status_is_true}
 use Rattle.rlc_law.proofs.Base.{near_one, done_below}
 use Rattle.rlc_law.proofs.Invariant.{at, RxFits}
 use Rattle.rlc_law.proofs.Inductive.{own_number, own_ack, reaches_inv}
@@ -41,10 +41,16 @@ reads_own_ack h run t among fresh =
     (near, λ c other. near_one h.tx.size t.status.ack (tx_next_ack h.tx + 1) c t.ack other near)
 
 pub makes_true : MakesTrue
-makes_true h run n a s r m = let is = reports_true h.rx (reaches_inv h run).sound n a s r m in (is.0, is.1, is.4)
+makes_true h run n a s r m = let is = written_status_is_true h.rx (reaches_inv h run).sound n a s r m in (is.0, is.1, is.4)
 
 pub stays_true : StaysTrue
 stays_true h run t among = ((reaches_inv h run).statuses t among).received
+
+pub gives_in_order : GivesInOrder
+gives_in_order h run = let inv = reaches_inv h run in (inv.tx.long, inv.sdus)
+
+pub keeps_given : KeepsGiven
+keeps_given h run = (reaches_inv h run).tx.sdu
 
 -- a piece of the SDU given is not in conflict
 pub no_conflict : (r : Rx) (given : List (List ℕ)) (x : ℕ) (v : Amd) → RxFits r given → IsPiece (at given x) v → IsConflict (got r x) v → ⊥

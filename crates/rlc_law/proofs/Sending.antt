@@ -1,5 +1,5 @@
 -- What was heard was sent, so no STATUS is beyond.
-use Rattle.std.proofs.Common.{◌≡◌, ◌≢◌, ◌⊎◌, inl, inr, ℕ, ◌+◌, ◌-◌, ◌<◌, ◌≤◌, max, true, List, [], ◌∷◌, ◌++◌, length, get_or, drop, length-take, Option, Some, None, refl, sym, ◌∙◌, ap, subst, arith, lt-ltb}
+use Rattle.std.proofs.Common.{◌≡◌, ◌≢◌, ◌⊎◌, inl, inr, ℕ, ◌+◌, ◌-◌, ◌<◌, ◌≤◌, max, true, false, List, [], ◌∷◌, ◌++◌, length, get_or, drop, length-take, Option, Some, None, refl, sym, ◌∙◌, ap, subst, arith, lt-ltb}
 use Rattle.std.proofs.lemmas.Bool.{cases_lt, cases_eq, false≢true, ltb-true}
 use Rattle.std.proofs.lemmas.Option.{none-some, same_Some}
 use Rattle.std.proofs.lemmas.List.{get_or_append_left, length_push}
@@ -18,9 +18,9 @@ use Rattle.rlc_model.specs.declared.transmitter.StatusHeard.{StatusHeard}
 use Rattle.rlc_model.specs.Rx.{Rx, Got, Done, Part, got, held_at, rx_next_highest, rx_next, Places, PollsAtOnce, Hears, Stores, Completes}
 use Rattle.rlc_model.specs.declared.receiver.Heard.{Heard}
 use Rattle.rlc_model.specs.declared.receiver.Heard.TheVariants.{Stored, Complete, Repeat, Outside, Conflict}
-use Rattle.rlc_model.specs.Made.{Reports}
+use Rattle.rlc_model.specs.Made.{WritesStatus}
 use Rattle.rlc_model.specs.Air.{IsFresh}
-use Rattle.rlc_law.specs.Hop.{Hop, StatusMade, Completion, Event, Happens, gives, sends, reports, delivers, acknowledges, expires_poll, expires_reassembly, expires_prohibit, Reaches, start, completed_after}
+use Rattle.rlc_law.specs.Hop.{Hop, StatusMade, Completion, Event, Happens, gives, sends, makes_status, delivers, acknowledges, expires_poll, expires_reassembly, expires_prohibit, Reaches, start, completed_after}
 use Rattle.std.specs.List.{Contains}
 use Rattle.rlc_law.specs.Laws.{NoneBeyond}
 use Rattle.rlc_law.proofs.Base.{near_one, past_highest, part_not_done, done_below, kept_below}
@@ -164,7 +164,7 @@ module _ (h : Hop) (inv : Invariant h) (fits : SentFits h) where
     statuses = each;
   }
 
-  module _ (d : Data) (r : Rx) (among : Contains h.pdus d) (fresh : IsFresh h.rx.size d.number (rx_next h.rx)) (x : ℕ) (near : Near h.rx.size d.view.sn (rx_next h.rx) x) where
+  module _ (d : Data) (r : Rx) (among : Contains h.pdus d) (fresh : IsFresh h.rx.size false d.number (rx_next h.rx)) (x : ℕ) (near : Near h.rx.size d.view.sn (rx_next h.rx) x) where
     own : x ≡ d.number
     own = near_one h.rx.size d.view.sn (rx_next h.rx) x d.number near (own_number h inv d among fresh)
 
@@ -225,7 +225,7 @@ module _ (h : Hop) (inv : Invariant h) (fits : SentFits h) where
             ]
 
   -- hearing a data PDU keeps it
-  delivers_fits : (d : Data) (r : Rx) → Contains h.pdus d → IsFresh h.rx.size d.number (rx_next h.rx) → (answer : Heard) → Hears h.rx d.view answer r → Invariant (record h { rx = r; completed = completed_after answer h.completed }) → SentFits (record h { rx = r; completed = completed_after answer h.completed })
+  delivers_fits : (d : Data) (r : Rx) → Contains h.pdus d → IsFresh h.rx.size false d.number (rx_next h.rx) → (answer : Heard) → Hears h.rx d.view answer r → Invariant (record h { rx = r; completed = completed_after answer h.completed }) → SentFits (record h { rx = r; completed = completed_after answer h.completed })
   delivers_fits d r among fresh Outside hears next = polls (hears.1)
     where
       polls : PollsAtOnce h.rx d.view r → SentFits (record h { rx = r; completed = h.completed })
@@ -255,7 +255,7 @@ sent_each old e new reached fits x = go x (reaches_inv new (reaches_more old e n
     heard t (Old a next) x hears = subst (λ (t : Tx). SentFits (record old { tx = t })) (sym hears.4) fits
     heard t (Beyond sn sent) x hears = subst (λ (t : Tx). SentFits (record old { tx = t })) (sym hears.3) fits
 
-    reported : {n : ℕ} (a : ℕ) (s : Status) (r : Rx) → Reports old.rx n a s r → (t : StatusMade) → Contains (record { ack = a; status = s } ∷ old.statuses) t → SentUpTo old.tx t.ack
+    reported : {n : ℕ} (a : ℕ) (s : Status) (r : Rx) → WritesStatus old.rx n a s r → (t : StatusMade) → Contains (record { ack = a; status = s } ∷ old.statuses) t → SentUpTo old.tx t.ack
     reported {n} a s r m t among = elim (contains_cases (record { ack = a; status = s }) old.statuses t among) [
       | inl e ↦ subst (λ (t : StatusMade). SentUpTo old.tx t.ack) (sym e) (lower old.tx a (rx_next_highest old.rx) (omega (arith, at_most old inv n r a s m, inv.sound.limit)) fits.high)
       | inr e ↦ fits.statuses t e
@@ -264,7 +264,7 @@ sent_each old e new reached fits x = go x (reaches_inv new (reaches_more old e n
     go : {e : Event} {new : Hop} → Happens old e new → Invariant new → SentFits new
     go (gives {tag = tag} {sdu = sdu} number t some small g) next = grows_tx old inv fits t (grows_gives old.tx t tag sdu number g) (old.given ++ sdu ∷ [])
     go (sends {n = n} m v t s) next = sends_fits old inv fits n t m v s
-    go (reports a s r m) next = same_rx old inv fits r (ap (λ (r : Rx). r.received) m.after) (record { ack = a; status = s } ∷ old.statuses) (reported a s r m)
+    go (makes_status a s r m) next = same_rx old inv fits r (ap (λ (r : Rx). r.received) m.after) (record { ack = a; status = s } ∷ old.statuses) (reported a s r m)
     go (delivers {d = d} answer r among fresh hears) next =
         reheard_sent (record old { rx = r; completed = completed_after answer old.completed }) (d ∷ old.heard)
         (delivers_fits old inv fits d r among fresh answer hears (reheard (record old { rx = r; completed = completed_after answer old.completed; heard = d ∷ old.heard }) old.heard next))

@@ -8,7 +8,7 @@ use Rattle.link_base.specs.declared.names.SnSize.TheVariants.{S12, S18}
 use Rattle.link_base.specs.declared.rlc_words.Tag.{Tag}
 use Rattle.rlc_status.specs.declared.status.Status.{Status}
 use Rattle.rlc_status.specs.Says.{SaysReceived}
-use Rattle.rlc_pdu.specs.Amd.{Amd, sn_end, first_octets, so_octets, bytes_of}
+use Rattle.rlc_pdu.specs.Amd.{Amd, sn_end, first_octets, so_octets, amd_bytes}
 use Rattle.rlc_model.specs.declared.transmitter.TxGrant.TheVariants.{Sent, Idle, Small}
 use Rattle.rlc_model.specs.declared.transmitter.StatusHeard.TheVariants.{Acked, Old, Beyond}
 use Rattle.rlc_model.specs.Pdu.{piece, si_of}
@@ -47,18 +47,18 @@ header_is size a = elim (cases_Bool (nat_lt 0 a)) [
 ]
 
 -- a piece has at most the octets of its header and its bytes
-piece_len : (size : SnSize) (number : ℕ) (sdu : List ℕ) (a e : ℕ) (poll : Bool) → length (bytes_of size (piece size number sdu a e poll)) ≤ header size a + (e - a)
+piece_len : (size : SnSize) (number : ℕ) (sdu : List ℕ) (a e : ℕ) (poll : Bool) → length (amd_bytes size (piece size number sdu a e poll)) ≤ header size a + (e - a)
 piece_len size number sdu a e poll =
     let offset : List ℕ = so_octets (si_of (eqb a 0) (eqb e (length sdu))) a in
     let body : List ℕ = take (e - a) (drop a sdu) in
     let first : List ℕ = first_octets size (piece size number sdu a e poll) in
-    let whole : length (bytes_of size (piece size number sdu a e poll)) ≡ length (first ++ offset) + length body = length-append (first ++ offset) body in
+    let whole : length (amd_bytes size (piece size number sdu a e poll)) ≡ length (first ++ offset) + length body = length-append (first ++ offset) body in
     omega (arith, header_is size a, first_len size (piece size number sdu a e poll), whole, length-append first offset, offset_len a (eqb e (length sdu)), length-take (e - a) (drop a sdu))
 
 pub sends_within : SendsWithin
 sends_within old n m bytes new g =
     let s = g.2 in
-    omega (arith, ap (λ (l : List ℕ). length l) g.1, ap (λ (v : Amd). length (bytes_of old.size v)) s.view, piece_len old.size m s.kept.sdu s.a s.e (g.0).poll, s.end, s.fits)
+    omega (arith, ap (λ (l : List ℕ). length l) g.1, ap (λ (v : Amd). length (amd_bytes old.size v)) s.view, piece_len old.size m s.kept.sdu s.a s.e (g.0).poll, s.end, s.fits)
 
 -- the last rule confirms nothing, and takes nothing back
 last_keeps : (old new : Tx) (s : Status) (tags : List Tag) (marks : List ℕ) (x : Acknowledges old s tags marks new) → Keeps x.mid new

@@ -12,7 +12,7 @@ use Rattle.rlc_status.specs.declared.status.Nack.{Nack}
 use Rattle.rlc_status.specs.declared.status.Status.{Status}
 use Rattle.rlc_status.specs.Format.{nacks_len}
 use Rattle.rlc_model.specs.Rx.{Rx, Got, Done, Part, got, held_at, len_of, rx_next}
-use Rattle.rlc_model.specs.Made.{IsTrueOf, IsWithin, HoldsNone, last_place, Gaps, full, inner, last, Group, gaps, run, IsMissing, Writes, all, stops, group}
+use Rattle.rlc_model.specs.Made.{IsTrueOf, IsWithin, HoldsNone, last_place, Gaps, full, inner, last, Group, gaps, run, IsMissing, WritesNacks, all, stops, group}
 use Rattle.rlc_law.specs.Receiver.{PartsFit}
 use Rattle.rlc_law.proofs.Base.{two_windows, part_not_done, below_rx_next}
 
@@ -196,7 +196,7 @@ module _ (r : Rx) (parts : PartsFit r) where
       where
         go : Group r m y es → (m ≤ n) × (n < y) × (got r n ≢ Done)
         go (gaps some its is) =
-            let same : n ≡ m = gaps_names r.size a m under near (got r m) (parts.small m) 0 es its n h in
+            let same : n ≡ m = gaps_names r.size a m under near (got r m) (λ q held. omega (arith, parts.small m q held)) 0 es its n h in
             (omega arith, omega arith, λ e. missing.1 (ap (got r) (sym same) ∙ e))
         go (run end none first is its) = elim (subst (λ (es : List Nack). Some_has (λ e. NamesNumber r.size a e n) es) its h) [
           | inl h ↦ let within = ranged_names n h in (within.0, within.1, (run_none end first is n within.0 within.1).0)
@@ -221,7 +221,7 @@ module _ (r : Rx) (parts : PartsFit r) where
         go : Group r m y es → (m ≤ n) × (n < y) × (got r n ≢ Done) → held_at (got r n) p ≡ None
         go (gaps some its is) named =
             let same : n ≡ m = omega (arith, named.0, named.1) in
-            ap (λ (n : ℕ). held_at (got r n) p) same ∙ gaps_missing r.size a m under near (got r m) (parts.small m) 0 es its p (subst (λ (n : ℕ). Some_has (λ e. NamesPlace r.size a e n p) es) same h)
+            ap (λ (n : ℕ). held_at (got r n) p) same ∙ gaps_missing r.size a m under near (got r m) (λ q held. omega (arith, parts.small m q held)) 0 es its p (subst (λ (n : ℕ). Some_has (λ e. NamesPlace r.size a e n p) es) same h)
         go (run end none first is its) named = (run_none end first is n named.0 named.1).1 p
 
     pub group_place : (n p : ℕ) → m ≤ n → n < y → IsWithin (got r n) p → held_at (got r n) p ≡ None → HasPlace n p
@@ -230,14 +230,14 @@ module _ (r : Rx) (parts : PartsFit r) where
         go : Group r m y es → HasPlace n p
         go (gaps some its is) =
             let same : m ≡ n = omega arith in
-            subst (λ (n : ℕ). HasPlace n p) same (gaps_named r.size a m under near (got r m) (parts.small m) 0 es its p (omega arith)
+            subst (λ (n : ℕ). HasPlace n p) same (gaps_named r.size a m under near (got r m) (λ q held. omega (arith, parts.small m q held)) 0 es its p (omega arith)
             (subst (λ (n : ℕ). IsWithin (got r n) p) (sym same) within) (ap (λ (n : ℕ). held_at (got r n) p) same ∙ none))
         go (run end no_held first is its) = subst (λ (es : List Nack). Some_has (λ e. NamesPlace r.size a e n p) es) (sym its)
             (inl (record { number = names_ranged n le lt; start = λ h. tt; stop = λ h. tt }))
 
 module _ (r : Rx) (parts : PartsFit r) where
   -- the ACK is from the first number on, up to RX_Highest_Status
-  pub writes_le : (octets x : ℕ) (es : List Nack) (a : ℕ) → x ≤ r.rx_highest_status → Writes r octets x es a → (x ≤ a) × (a ≤ r.rx_highest_status)
+  pub writes_le : (octets x : ℕ) (es : List Nack) (a : ℕ) → x ≤ r.rx_highest_status → WritesNacks r octets x es a → (x ≤ a) × (a ≤ r.rx_highest_status)
   writes_le octets x es a le (all finished) = (le, omega arith)
   writes_le octets x es a le (stops m y g first its long) = (first.from, omega (arith, first.has.0))
   writes_le octets x es a le (group {rest = rest} m y g first its fits more) =
@@ -247,7 +247,7 @@ module _ (r : Rx) (parts : PartsFit r) where
 
   -- low is a number from which on no number of the window is read wrongly
   module _ (low : ℕ) (wide : r.rx_highest_status ≤ low + modulus r.size) where
-    pub writes_names : (octets x : ℕ) (es : List Nack) (a : ℕ) → low ≤ x → x ≤ r.rx_highest_status → Writes r octets x es a → (n : ℕ) → Some_has (λ e. NamesNumber r.size a e n) es → got r n ≢ Done
+    pub writes_names : (octets x : ℕ) (es : List Nack) (a : ℕ) → low ≤ x → x ≤ r.rx_highest_status → WritesNacks r octets x es a → (n : ℕ) → Some_has (λ e. NamesNumber r.size a e n) es → got r n ≢ Done
     writes_names octets x es a from le (all finished) n h = absurd h
     writes_names octets x es a from le (stops m y g first its long) n h = absurd h
     writes_names octets x es a from le (group {rest = rest} m y g first its fits more) n h =
@@ -258,7 +258,7 @@ module _ (r : Rx) (parts : PartsFit r) where
           | inr there ↦ writes_names (octets - nacks_len r.size g) y rest a (omega (arith, first.from, ys.0)) ys.1 more n there
         ]
 
-    pub writes_named : (octets x : ℕ) (es : List Nack) (a : ℕ) → low ≤ x → x ≤ r.rx_highest_status → Writes r octets x es a → (n : ℕ) → x ≤ n → n < a → got r n ≢ Done → Some_has (λ e. NamesNumber r.size a e n) es
+    pub writes_named : (octets x : ℕ) (es : List Nack) (a : ℕ) → low ≤ x → x ≤ r.rx_highest_status → WritesNacks r octets x es a → (n : ℕ) → x ≤ n → n < a → got r n ≢ Done → Some_has (λ e. NamesNumber r.size a e n) es
     writes_named octets x es a from le (all finished) n at below open_n = absurd (finished n at (below, open_n))
     writes_named octets x es a from le (stops m y g first its long) n at below open_n = absurd (first.none n at below (omega (arith, first.has.0), open_n))
     writes_named octets x es a from le (group {rest = rest} m y g first its fits more) n at below open_n =
@@ -272,7 +272,7 @@ module _ (r : Rx) (parts : PartsFit r) where
           ]
         ]
 
-    pub writes_missing : (octets x : ℕ) (es : List Nack) (a : ℕ) → low ≤ x → x ≤ r.rx_highest_status → Writes r octets x es a → (n p : ℕ) → Some_has (λ e. NamesPlace r.size a e n p) es → held_at (got r n) p ≡ None
+    pub writes_missing : (octets x : ℕ) (es : List Nack) (a : ℕ) → low ≤ x → x ≤ r.rx_highest_status → WritesNacks r octets x es a → (n p : ℕ) → Some_has (λ e. NamesPlace r.size a e n p) es → held_at (got r n) p ≡ None
     writes_missing octets x es a from le (all finished) n p h = absurd h
     writes_missing octets x es a from le (stops m y g first its long) n p h = absurd h
     writes_missing octets x es a from le (group {rest = rest} m y g first its fits more) n p h =
@@ -283,7 +283,7 @@ module _ (r : Rx) (parts : PartsFit r) where
           | inr there ↦ writes_missing (octets - nacks_len r.size g) y rest a (omega (arith, first.from, ys.0)) ys.1 more n p there
         ]
 
-    pub writes_place : (octets x : ℕ) (es : List Nack) (a : ℕ) → low ≤ x → x ≤ r.rx_highest_status → Writes r octets x es a → (n p : ℕ) → x ≤ n → n < a → got r n ≢ Done → IsWithin (got r n) p → held_at (got r n) p ≡ None → Some_has (λ e. NamesPlace r.size a e n p) es
+    pub writes_place : (octets x : ℕ) (es : List Nack) (a : ℕ) → low ≤ x → x ≤ r.rx_highest_status → WritesNacks r octets x es a → (n p : ℕ) → x ≤ n → n < a → got r n ≢ Done → IsWithin (got r n) p → held_at (got r n) p ≡ None → Some_has (λ e. NamesPlace r.size a e n p) es
     writes_place octets x es a from le (all finished) n p at below open_n within none = absurd (finished n at (below, open_n))
     writes_place octets x es a from le (stops m y g first its long) n p at below open_n within none = absurd (first.none n at below (omega (arith, first.has.0), open_n))
     writes_place octets x es a from le (group {rest = rest} m y g first its fits more) n p at below open_n within none =
@@ -298,7 +298,7 @@ module _ (r : Rx) (parts : PartsFit r) where
         ]
 
 -- a STATUS written from RX_Next on is true
-pub writes_true : (r : Rx) → PartsFit r → (octets a : ℕ) (s : Status) → rx_next r ≤ r.rx_highest_status → r.rx_highest_status ≤ rx_next r + window r.size → Writes r octets (rx_next r) s.nacks a → IsTrueOf r a s
+pub writes_true : (r : Rx) → PartsFit r → (octets a : ℕ) (s : Status) → rx_next r ≤ r.rx_highest_status → r.rx_highest_status ≤ rx_next r + window r.size → WritesNacks r octets (rx_next r) s.nacks a → IsTrueOf r a s
 writes_true r parts octets a s le window_kept w =
     let wide : r.rx_highest_status ≤ rx_next r + modulus r.size = omega (arith, two_windows r.size) in
     let from : rx_next r ≤ rx_next r = omega arith in

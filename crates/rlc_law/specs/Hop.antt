@@ -1,8 +1,9 @@
 -- One hop in one way: a transmitter, a receiver, and the air between them, which loses, repeats and reorders PDUs.
-use Rattle.std.specs.Prelude.{◌≡◌, ℕ, ◌<◌, ◌≤◌, List, [], ◌∷◌, ◌++◌, length, slice_index_or, Contains}
+use Rattle.std.specs.Prelude.{◌≡◌, ℕ, ◌<◌, ◌≤◌, true, false, List, [], ◌∷◌, ◌++◌, length, slice_index_or, Contains}
 use Rattle.link_base.specs.declared.names.SnSize.{SnSize}
 use Rattle.link_base.specs.declared.rlc_words.Tag.{Tag}
-use Rattle.rlc_pdu.specs.Amd.{Amd, max_sdu}
+use Rattle.link_base.specs.declared.limits.TheConstants.{LONGEST_RLC_SDU}
+use Rattle.rlc_pdu.specs.Amd.{Amd}
 use Rattle.rlc_status.specs.declared.status.Status.{Status}
 use Rattle.rlc_model.specs.declared.receiver.Heard.{Heard}
 use Rattle.rlc_model.specs.declared.receiver.Heard.TheVariants.{Stored, Complete, Repeat, Outside, Conflict}
@@ -11,8 +12,8 @@ use Rattle.rlc_model.specs.Heard.{Data}
 use Rattle.rlc_model.specs.Tx.{Tx, empty_tx, tx_next_ack, Gives, Sends}
 use Rattle.rlc_model.specs.Retransmission.{HearsStatus, ExpiresPoll}
 use Rattle.rlc_model.specs.Rx.{Rx, empty_rx, rx_next, Hears, ExpiresReassembly, ExpiresProhibit}
-use Rattle.rlc_model.specs.Made.{Reports}
-use Rattle.rlc_model.specs.Air.{IsFresh, IsFreshStatus}
+use Rattle.rlc_model.specs.Made.{WritesStatus}
+use Rattle.rlc_model.specs.Air.{IsFresh}
 
 -- a STATUS, and the number that its ACK_SN stands for
 pub record StatusMade : Type 0 where
@@ -62,11 +63,11 @@ completed_after Conflict completed = completed
 
 -- an event takes the hop from old to a new one. A PDU that was made can be delivered as long as it isn't stale
 pub data Happens (old : Hop) : Event → Hop → Type 0 where
-  gives : {tag : Tag} {sdu : List ℕ} (number : ℕ) (t : Tx) → 0 < length sdu → length sdu ≤ max_sdu → Gives old.tx tag sdu number t → Happens old (Give tag sdu) (record old { tx = t; given = old.given ++ sdu ∷ [] })
+  gives : {tag : Tag} {sdu : List ℕ} (number : ℕ) (t : Tx) → 0 < length sdu → length sdu ≤ LONGEST_RLC_SDU → Gives old.tx tag sdu number t → Happens old (Give tag sdu) (record old { tx = t; given = old.given ++ sdu ∷ [] })
   sends : {n : ℕ} (m : ℕ) (v : Amd) (t : Tx) → Sends old.tx n m v t → Happens old (Grant n) (record old { tx = t; pdus = record { number = m; view = v } ∷ old.pdus })
-  reports : {n : ℕ} (a : ℕ) (s : Status) (r : Rx) → Reports old.rx n a s r → Happens old (GrantStatus n) (record old { rx = r; statuses = record { ack = a; status = s } ∷ old.statuses })
-  delivers : {d : Data} (answer : Heard) (r : Rx) → Contains old.pdus d → IsFresh old.rx.size d.number (rx_next old.rx) → Hears old.rx d.view answer r → Happens old (Deliver d) (record old { rx = r; completed = completed_after answer old.completed; heard = d ∷ old.heard })
-  acknowledges : {t : StatusMade} (answer : StatusHeard) (x : Tx) → Contains old.statuses t → IsFreshStatus old.tx.size t.ack (tx_next_ack old.tx) → HearsStatus old.tx t.status answer x → Happens old (DeliverStatus t) (record old { tx = x })
+  makes_status : {n : ℕ} (a : ℕ) (s : Status) (r : Rx) → WritesStatus old.rx n a s r → Happens old (GrantStatus n) (record old { rx = r; statuses = record { ack = a; status = s } ∷ old.statuses })
+  delivers : {d : Data} (answer : Heard) (r : Rx) → Contains old.pdus d → IsFresh old.rx.size false d.number (rx_next old.rx) → Hears old.rx d.view answer r → Happens old (Deliver d) (record old { rx = r; completed = completed_after answer old.completed; heard = d ∷ old.heard })
+  acknowledges : {t : StatusMade} (answer : StatusHeard) (x : Tx) → Contains old.statuses t → IsFresh old.tx.size true t.ack (tx_next_ack old.tx) → HearsStatus old.tx t.status answer x → Happens old (DeliverStatus t) (record old { tx = x })
   expires_poll : (marks : List ℕ) (t : Tx) → ExpiresPoll old.tx marks t → Happens old ExpirePoll (record old { tx = t })
   expires_reassembly : (r : Rx) → ExpiresReassembly old.rx r → Happens old ExpireReassembly (record old { rx = r })
   expires_prohibit : (r : Rx) → ExpiresProhibit old.rx r → Happens old ExpireProhibit (record old { rx = r })

@@ -1,6 +1,8 @@
 pub mod Hop
 pub mod Laws
 pub mod Receiver
-pub mod Hops
+pub mod Ports
+pub mod Sides
+pub mod PortLaws
 pub mod OneOutcome
 pub mod Transmitter

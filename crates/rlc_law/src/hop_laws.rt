@@ -1,15 +1,9 @@
 // The laws of a hop whose transmitter and receiver are the two ends of one air.
-ghost use Rattle.rlc_law.specs.Laws.{ReachesMore, SendsPieces, SendsInOrder, CompletesAsGiven, CompletesOnce, ConfirmsComplete, ReadsOwnNumber, ReadsOwnAck, NoneOutside, NoneBeyond, MakesTrue, StaysTrue, CompletesHeard, HeardAsGiven, HoldsHeard, KnowsHeardEnd, NumbersBounded};
-ghost use Rattle.rlc_law.specs.Hops.{MovesKeep};
+ghost use Rattle.rlc_law.specs.Laws.{ReachesMore, SendsPieces, SendsInOrder, CompletesAsGiven, CompletesOnce, ConfirmsComplete, ReadsOwnNumber, ReadsOwnAck, NoneOutside, NoneBeyond, MakesTrue, StaysTrue, CompletesHeard, HeardAsGiven, HoldsHeard, KnowsHeardEnd, NumbersBounded, GivesInOrder, KeepsGiven, HearsSent};
 
 /// A law: an event takes a hop that can be reached to one that can be reached.
 pub fn hop_goes_on()
     ensures { ReachesMore }
-{}
-
-/// A law: of many hops one moves at a time, and all stay hops that can be reached.
-pub fn hops_move_apart()
-    ensures { MovesKeep }
 {}
 
 /// A law: each data PDU made is a piece of the SDU given under its number, has that number's SN and fits its format, and
@@ -17,6 +11,13 @@ pub fn hops_move_apart()
 pub fn pdus_are_pieces()
     ensures pieces { SendsPieces }
     ensures order { SendsInOrder }
+{}
+
+/// A law: SDUs have the numbers up to TX_Next, in the order in which they were given, and from 1 to 9,005 bytes; one that
+/// isn't confirmed is kept as it was given.
+pub fn sdus_are_kept_as_given()
+    ensures order { GivesInOrder }
+    ensures kept { KeepsGiven }
 {}
 
 /// A law: each SDU given is handed up at most once, as it was given, and it is confirmed only where it was handed up.
@@ -42,10 +43,11 @@ pub fn status_is_true()
     ensures stays { StaysTrue }
 {}
 
-/// A law: a number is complete exactly where the data PDUs delivered so far, as a set of bytes by number and place, hold
+/// A law: what is heard was sent, and a number is complete exactly where the data PDUs delivered so far, as a set of bytes by number and place, hold
 /// each byte of an SDU up to its end; and that SDU is the one given. Of a number that isn't complete those bytes and that end
 /// are held that some of them have.
 pub fn what_is_complete_was_heard()
+    ensures sent { HearsSent }
     ensures complete { CompletesHeard }
     ensures as_given { HeardAsGiven }
     ensures holds { HoldsHeard }

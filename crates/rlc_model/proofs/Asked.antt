@@ -4,7 +4,7 @@ use Rattle.std.specs.List.{Contains}
 use Rattle.std.proofs.lemmas.Bool.{false≢true}
 use Rattle.std.proofs.lemmas.Option.{none-some}
 use Rattle.rlc_model.specs.Rx.{Rx, Got, Done, Part, got, held_at, rx_next, IsRepeat, IsConflict, other_length, held_past, past_length, no_last, starts, rests, IsDue, Completes, ExpiresReassembly}
-use Rattle.rlc_model.specs.Made.{run, IsMissing, all, group, Reports}
+use Rattle.rlc_model.specs.Made.{run, IsMissing, all, group, WritesStatus}
 use Rattle.rlc_model.specs.Worked.{r0, sdu0, sdu1, sdu2, whole, asks, AsksForMissing}
 use Rattle.rlc_model.proofs.Checks.{at_below, same_option, option_is, places_of, part_not_done, only_one, contains_none, contains_one}
 
@@ -127,7 +127,7 @@ only_missing (suc (suc zero)) m = absurd (m.1 refl)
 only_missing (suc (suc (suc n))) m = absurd (omega (arith, m.0))
 
 -- so the STATUS asks for number 1
-makes_asks : Reports r3 100 3 asks r4
+makes_asks : WritesStatus r3 100 3 asks r4
 makes_asks = record {
   due = refl;
   room = omega arith;

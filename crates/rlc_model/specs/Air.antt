@@ -1,12 +1,13 @@
 -- Which PDUs the air between two entities still hands over: those near enough to be read under their own number.
-use Rattle.std.specs.Prelude.{ℕ, ◌+◌, ◌<◌, ◌≤◌}
+use Rattle.std.specs.Prelude.{◌≡◌, ℕ, ◌+◌, Bool, false, nat_lt, nat_le, if◌then◌else◌}
 use Rattle.link_base.specs.declared.names.SnSize.{SnSize}
 use Rattle.link_base.specs.SequenceNumbers.{window}
 
--- a data PDU of the number a is not stale at a receiver with this RX_Next
-abbrev pub IsFresh : SnSize → ℕ → ℕ → Type 0
-IsFresh size a rx_next = rx_next ≤ a + window size
+-- a data PDU is stale where its number lies more than a window below RX_Next, a STATUS PDU where its number lies a window or more below
+-- TX_Next_Ack: then its sequence number would be read as another number
+abbrev pub is_stale : SnSize → Bool → ℕ → ℕ → Bool
+is_stale size status number next = if status then nat_le (number + window size) next else nat_lt (number + window size) next
 
--- a STATUS whose ACK_SN stands for a is not stale at a transmitter with this TX_Next_Ack
-abbrev pub IsFreshStatus : SnSize → ℕ → ℕ → Type 0
-IsFreshStatus size a tx_next_ack = tx_next_ack < a + window size
+-- a STATUS PDU, or a data PDU, of this number isn't stale
+abbrev pub IsFresh : SnSize → Bool → ℕ → ℕ → Type 0
+IsFresh size status number next = is_stale size status number next ≡ false

@@ -7,5 +7,6 @@ pub mod Tx
 pub mod Retransmission
 pub mod Air
 pub mod Calls
+pub mod Sides
 pub mod Hop
 pub mod Worked

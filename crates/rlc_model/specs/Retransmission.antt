@@ -1,6 +1,7 @@
 -- A transmitter hears a STATUS, or its poll timer runs out (TS 38.322 clauses 5.2.3.1, 5.3.2, 5.3.3.3 and 5.3.3.4).
-use Rattle.std.specs.Prelude.{◌≡◌, ◌≢◌, ◌⊎◌, ◌↔◌, ℕ, ◌+◌, ◌-◌, ◌<◌, ◌≤◌, true, false, List, [], ◌∷◌, ◌++◌, length, slice_index_or, Contains, Option, Some, None}
+use Rattle.std.specs.Prelude.{◌≡◌, ◌≢◌, ◌⊎◌, ◌↔◌, ℕ, ◌+◌, ◌-◌, ◌<◌, ◌≤◌, min, true, false, List, [], ◌∷◌, ◌++◌, length, slice_index_or, Contains, Option, Some, None}
 use Rattle.std.specs.List.Sorted.{IsStrictlyIncreasing}
+use Rattle.link_base.specs.declared.names.SnSize.{SnSize}
 use Rattle.link_base.specs.declared.rlc_words.Tag.{Tag}
 use Rattle.link_base.specs.SequenceNumbers.{Near}
 use Rattle.rlc_status.specs.declared.status.Nack.{Nack}
@@ -8,14 +9,15 @@ use Rattle.rlc_status.specs.declared.status.Status.{Status}
 use Rattle.rlc_status.specs.Says.{IsGreatest, count, Some_has, Names, SaysReceived, SaysMissing}
 use Rattle.rlc_model.specs.declared.transmitter.StatusHeard.{StatusHeard}
 use Rattle.rlc_model.specs.declared.transmitter.StatusHeard.TheVariants.{Acked, Old, Beyond}
-use Rattle.rlc_model.specs.Tx.{Tx, Kept, kept_at, tx_next, tx_next_ack, is_unsent, PendingWaits, UnsentWaits, IsSentCount, SameSettings}
+use Rattle.rlc_model.specs.Tx.{Tx, Kept, at, kept_at, tx_next, tx_next_ack, is_unsent, PendingWaits, UnsentWaits, IsBegunCount, IsSentCount, SameSettings}
 
 -- RETX_COUNT of an SDU that is considered for retransmission: it becomes 0 where it was undefined, else it grows by one where a byte
--- became pending that was not, else it stays. The number is a mark where the count comes to maxRetxThreshold (5.3.2)
+-- became pending that was not, else it stays. The number is a mark where the count comes to maxRetxThreshold; a count above that is
+-- never asked for, so all of these are kept as one (5.3.2)
 pub data Counts (max_retx_threshold : ℕ) (old new : Kept) (is_mark : Type 0) : Type 0 where
   first : old.retx_count ≡ None → new.retx_count ≡ Some 0 → (is_mark ↔ max_retx_threshold ≡ 0) → Counts max_retx_threshold old new is_mark
   again : (c p : ℕ) → old.retx_count ≡ Some c → slice_index_or old.flags p false ≡ false → slice_index_or new.flags p false ≡ true
-      → new.retx_count ≡ Some (c + 1) → (is_mark ↔ max_retx_threshold ≡ c + 1) → Counts max_retx_threshold old new is_mark
+      → new.retx_count ≡ Some (min (c + 1) (max_retx_threshold + 1)) → (is_mark ↔ max_retx_threshold ≡ c + 1) → Counts max_retx_threshold old new is_mark
   stays : (c : ℕ) → old.retx_count ≡ Some c → ((p : ℕ) → slice_index_or new.flags p false ≡ true → slice_index_or old.flags p false ≡ true)
       → new.retx_count ≡ Some c → (is_mark → ⊥) → Counts max_retx_threshold old new is_mark
 
@@ -47,38 +49,42 @@ pub data RetransmitsLowest (old : Tx) (marks : List ℕ) (new : Tx) : Type 0 whe
   retransmits : LowestPends old marks new → RetransmitsLowest old marks new
 
 -- the part of an element begins at or behind the end of an SDU that is not confirmed, the first one named
-pub record BeginsPast (t : Tx) (a : ℕ) (e : Nack) : Type 0 where
+pub record BeginsPast (size : SnSize) (l : List (Option Kept)) (a : ℕ) (e : Nack) : Type 0 where
   pub number : ℕ
   pub unconfirmed : Kept
   pub start : ℕ
   pub end : ℕ
-  pub is : IsGreatest t.size a e.sn number
+  pub is : IsGreatest size a e.sn number
   pub part : e.part ≡ Some (start, end)
-  pub kept : kept_at t number ≡ Some unconfirmed
+  pub kept : at l number ≡ Some unconfirmed
   pub past : length unconfirmed.sdu ≤ start
 
 -- the part of an element ends at or behind the end of an SDU that is not confirmed, the last one named, and SOend doesn't stand for
 -- that end
-pub record EndsPast (t : Tx) (a : ℕ) (e : Nack) : Type 0 where
+pub record EndsPast (size : SnSize) (l : List (Option Kept)) (a : ℕ) (e : Nack) : Type 0 where
   pub number : ℕ
   pub unconfirmed : Kept
   pub start : ℕ
   pub end : ℕ
-  pub is : IsGreatest t.size a e.sn number
+  pub is : IsGreatest size a e.sn number
   pub part : e.part ≡ Some (start, end)
-  pub kept : kept_at t (number + count e - 1) ≡ Some unconfirmed
+  pub kept : at l (number + count e - 1) ≡ Some unconfirmed
   pub past : length unconfirmed.sdu ≤ end
   pub explicit : end ≢ 65535
 
 -- a STATUS whose ACK stands for a speaks of what was not sent: a is above what was sent; an element names a number below 0, or one that
 -- isn't below a; a part of an unconfirmed SDU begins or ends behind it; or a number is said received whose bytes weren't all sent (5.3.2)
-pub data IsBeyondAt (t : Tx) (s : Status) (a : ℕ) : Type 0 where
-  above : (c : ℕ) → IsSentCount t c → c < a → IsBeyondAt t s a
-  below_zero : Some_has (λ e. (m : ℕ) → IsGreatest t.size a e.sn m → ⊥) s.nacks → IsBeyondAt t s a
-  past_ack : Some_has (λ e. (m : ℕ) × IsGreatest t.size a e.sn m × (a < m + count e)) s.nacks → IsBeyondAt t s a
-  begins_past : Some_has (BeginsPast t a) s.nacks → IsBeyondAt t s a
-  ends_past : Some_has (EndsPast t a) s.nacks → IsBeyondAt t s a
-  not_sent : (n : ℕ) → SaysReceived t.size a s n → is_unsent (kept_at t n) ≡ true → IsBeyondAt t s a
+pub data SpeaksBeyond (size : SnSize) (l : List (Option Kept)) (s : Status) (a : ℕ) : Type 0 where
+  above : (c : ℕ) → IsBegunCount l c → c < a → SpeaksBeyond size l s a
+  below_zero : Some_has (λ e. (m : ℕ) → IsGreatest size a e.sn m → ⊥) s.nacks → SpeaksBeyond size l s a
+  past_ack : Some_has (λ e. (m : ℕ) × IsGreatest size a e.sn m × (a < m + count e)) s.nacks → SpeaksBeyond size l s a
+  begins_past : Some_has (BeginsPast size l a) s.nacks → SpeaksBeyond size l s a
+  ends_past : Some_has (EndsPast size l a) s.nacks → SpeaksBeyond size l s a
+  not_sent : (n : ℕ) → SaysReceived size a s n → is_unsent (at l n) ≡ true → SpeaksBeyond size l s a
+
+-- the same of a transmitter
+abbrev pub IsBeyondAt : Tx → Status → ℕ → Type 0
+IsBeyondAt t s a = SpeaksBeyond t.size t.kept s a
 
 -- a STATUS speaks of what was not sent: no number near TX_Next_Ack + 1 has its ACK_SN, or it does with the number that has (5.3.2)
 pub data IsBeyond (t : Tx) (s : Status) : Type 0 where
@@ -87,10 +93,14 @@ pub data IsBeyond (t : Tx) (s : Status) : Type 0 where
 
 -- what a STATUS does to the number n: it is confirmed where it is said received; else, below the ACK, its bytes said missing become
 -- pending; else it stays (5.2.3.1.1 and 5.3.2)
-pub data UpdatesSdu (old : Tx) (a : ℕ) (s : Status) (n : ℕ) (marks : List ℕ) (new : Option Kept) : Type 0 where
-  confirmed : (k : Kept) → kept_at old n ≡ Some k → SaysReceived old.size a s n → new ≡ None → UpdatesSdu old a s n marks new
-  missing : (k k' : Kept) → kept_at old n ≡ Some k → n < a → Names old.size a s n → new ≡ Some k' → BecomesPending old.max_retx_threshold (SaysMissing old.size a s n) k k' (Contains marks n) → UpdatesSdu old a s n marks new
-  rest : (a ≤ n) ⊎ (kept_at old n ≡ None) → new ≡ kept_at old n → UpdatesSdu old a s n marks new
+pub data UpdatesKept (size : SnSize) (max_retx_threshold a : ℕ) (s : Status) (n : ℕ) (marks : List ℕ) (old new : Option Kept) : Type 0 where
+  confirmed : (k : Kept) → old ≡ Some k → SaysReceived size a s n → new ≡ None → UpdatesKept size max_retx_threshold a s n marks old new
+  missing : (k k' : Kept) → old ≡ Some k → n < a → Names size a s n → new ≡ Some k' → BecomesPending max_retx_threshold (SaysMissing size a s n) k k' (Contains marks n) → UpdatesKept size max_retx_threshold a s n marks old new
+  rest : (a ≤ n) ⊎ (old ≡ None) → new ≡ old → UpdatesKept size max_retx_threshold a s n marks old new
+
+-- the same of a transmitter before it
+abbrev pub UpdatesSdu : Tx → ℕ → Status → ℕ → List ℕ → Option Kept → Type 0
+UpdatesSdu old a s n marks new = UpdatesKept old.size old.max_retx_threshold a s n marks (kept_at old n) new
 
 -- what a STATUS does to all numbers, and to t-PollRetransmit, which stops where POLL_SN is below the ACK (5.3.3.3)
 pub record Updates (old : Tx) (a : ℕ) (s : Status) (marks : List ℕ) (new : Tx) : Type 0 where

@@ -66,9 +66,13 @@ status_due r = r.status_triggered && not r.status_prohibit_runs
 abbrev pub HasGap : Got → Type 0
 HasGap g = (p q : ℕ) × (p < q) × (held_at g p ≡ None) × (held_at g q ≢ None)
 
--- a data PDU brings nothing new of its number x: x is complete, or its bytes are held and its end is known or not in it (5.2.3.2.2)
+-- a data PDU brings nothing new of an SDU that is not complete: its bytes are held, and the SDU's end is known or not in it (5.2.3.2.2)
+abbrev pub BringsNothing : Got → Amd → Type 0
+BringsNothing g v = ((p : ℕ) → v.so ≤ p → p < end_of v → held_at g p ≢ None) × (is_end v.si ≡ false ⊎ len_of g ≢ None)
+
+-- a data PDU brings nothing new of its number x: x is complete, or the PDU brings nothing new of its SDU (5.2.3.2.2)
 abbrev pub IsRepeat : Rx → ℕ → Amd → Type 0
-IsRepeat r x v = (x < rx_next r) ⊎ (got r x ≡ Done) ⊎ (((p : ℕ) → v.so ≤ p → p < end_of v → held_at (got r x) p ≢ None) × (is_end v.si ≡ false ⊎ len_of (got r x) ≢ None))
+IsRepeat r x v = (x < rx_next r) ⊎ (got r x ≡ Done) ⊎ BringsNothing (got r x) v
 
 -- a data PDU disagrees with what is got about the SDU's end: it gives another length, or a length at or below a place held; it has a
 -- byte past the known length; or it is a segment that ends there and isn't the last (5.2.3.2.2)
@@ -105,22 +109,31 @@ pub record Enters (old : Rx) (x : ℕ) (g : Got) (new : Rx) : Type 0 where
 
 -- t-Reassembly runs on with this trigger: it lies above RX_Next and at most a window above it, and where it is RX_Next + 1 a byte of
 -- RX_Next is missing before the last one held (5.2.3.2.3)
-pub record RunsOn (r : Rx) (trigger : ℕ) : Type 0 where
-  pub above : rx_next r < trigger
-  pub within : trigger ≤ rx_next r + window r.size
-  pub gap : trigger ≡ rx_next r + 1 → HasGap (got r (rx_next r))
+pub record RunsOnFrom (next : ℕ) (size : SnSize) (has_gap : Type 0) (trigger : ℕ) : Type 0 where
+  pub above : next < trigger
+  pub within : trigger ≤ next + window size
+  pub gap : trigger ≡ next + 1 → has_gap
+
+abbrev pub RunsOn : Rx → ℕ → Type 0
+RunsOn r trigger = RunsOnFrom (rx_next r) r.size (HasGap (got r (rx_next r))) trigger
 
 -- t-Reassembly has to run for x: RX_Next_Highest is above x + 1, or it is x + 1 and a byte of x is missing before the last one held
 -- (5.2.3.2.3 and 5.2.3.2.4)
+abbrev pub HasToRunBelow : ℕ → ℕ → Type 0 → Type 0
+HasToRunBelow highest x has_gap = (x + 1 < highest) ⊎ ((highest ≡ x + 1) × has_gap)
+
 abbrev pub HasToRun : Rx → ℕ → Type 0
-HasToRun r x = (x + 1 < rx_next_highest r) ⊎ ((rx_next_highest r ≡ x + 1) × HasGap (got r x))
+HasToRun r x = HasToRunBelow (rx_next_highest r) x (HasGap (got r x))
 
 -- t-Reassembly after a PDU was placed: it runs on with its trigger, else it starts with RX_Next_Highest as its trigger where it has to
 -- run for RX_Next, else it rests (5.2.3.2.3)
-pub data Reassembles (before : Option ℕ) (new : Rx) : Type 0 where
-  runs_on : (t : ℕ) → before ≡ Some t → RunsOn new t → new.rx_next_status_trigger ≡ Some t → Reassembles before new
-  starts : ((t : ℕ) → before ≡ Some t → RunsOn new t → ⊥) → HasToRun new (rx_next new) → new.rx_next_status_trigger ≡ Some (rx_next_highest new) → Reassembles before new
-  rests : ((t : ℕ) → before ≡ Some t → RunsOn new t → ⊥) → (HasToRun new (rx_next new) → ⊥) → new.rx_next_status_trigger ≡ None → Reassembles before new
+pub data TriggerMoves (before : Option ℕ) (on : ℕ → Type 0) (has_to : Type 0) (highest : ℕ) (after : Option ℕ) : Type 0 where
+  runs_on : (t : ℕ) → before ≡ Some t → on t → after ≡ Some t → TriggerMoves before on has_to highest after
+  starts : ((t : ℕ) → before ≡ Some t → on t → ⊥) → has_to → after ≡ Some highest → TriggerMoves before on has_to highest after
+  rests : ((t : ℕ) → before ≡ Some t → on t → ⊥) → (has_to → ⊥) → after ≡ None → TriggerMoves before on has_to highest after
+
+abbrev pub Reassembles : Option ℕ → Rx → Type 0
+Reassembles before new = TriggerMoves before (RunsOn new) (HasToRun new (rx_next new)) (rx_next_highest new) new.rx_next_status_trigger
 
 -- a poll of this number triggers a STATUS: the number is below RX_Highest_Status, or not below the receiving window's end (5.3.4)
 abbrev pub IsDue : Rx → ℕ → Type 0
@@ -135,6 +148,13 @@ pub record Polls (old : Rx) (x : ℕ) (poll : Bool) (new : Rx) : Type 0 where
 -- a poll of a PDU that changes nothing else triggers a STATUS at once (5.3.4)
 abbrev pub PollsAtOnce : Rx → Amd → Rx → Type 0
 PollsAtOnce old v new = new ≡ record old { status_triggered = old.status_triggered || v.poll }
+
+-- a data PDU is to be placed: it has a number near RX_Next, brings something new of it, and doesn't disagree with what is got (5.2.3.2.2)
+pub record IsToBePlaced (r : Rx) (v : Amd) : Type 0 where
+  pub number : ℕ
+  pub near : Near r.size v.sn (rx_next r) number
+  pub news : IsRepeat r number v → ⊥
+  pub agrees : IsConflict (got r number) v → ⊥
 
 -- a data PDU of number x is placed, and its SDU isn't complete (5.2.3.2.3)
 pub record Stores (old : Rx) (x : ℕ) (v : Amd) (new : Rx) : Type 0 where

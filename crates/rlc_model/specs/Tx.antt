@@ -5,7 +5,7 @@ use Rattle.std.specs.Option.{is_none}
 use Rattle.link_base.specs.declared.names.SnSize.{SnSize}
 use Rattle.link_base.specs.declared.rlc_words.Tag.{Tag}
 use Rattle.link_base.specs.SequenceNumbers.{window}
-use Rattle.rlc_pdu.specs.Amd.{Amd, bytes_of, sn_end}
+use Rattle.rlc_pdu.specs.Amd.{Amd, amd_bytes, sn_end}
 use Rattle.rlc_model.specs.declared.transmitter.TxGrant.{TxGrant}
 use Rattle.rlc_model.specs.declared.transmitter.TxGrant.TheVariants.{Sent, Idle, Small}
 use Rattle.rlc_model.specs.Numbers.{IsFirst, IsFirstRun}
@@ -38,9 +38,13 @@ pub record Tx : Type 0 where
 abbrev pub empty_tx : SnSize → ℕ → ℕ → ℕ → Tx
 empty_tx size poll_pdu poll_byte max_retx_threshold = record { size = size; poll_pdu = poll_pdu; poll_byte = poll_byte; max_retx_threshold = max_retx_threshold; kept = []; pdu_without_poll = 0; byte_without_poll = 0; poll_sn = None; poll_owed = false; poll_retransmit_runs = false }
 
+-- of a list that has for each number its SDU, or None where that is confirmed: the SDU of a number, or None where it was not given either
+abbrev pub at : List (Option Kept) → ℕ → Option Kept
+at l n = slice_index_or l n None
+
 -- the SDU of a number, or None where it is confirmed or was not given
 abbrev pub kept_at : Tx → ℕ → Option Kept
-kept_at t n = slice_index_or t.kept n None
+kept_at t n = at t.kept n
 
 -- TX_Next: the number of the next SDU given (7.1)
 abbrev pub tx_next : Tx → ℕ
@@ -50,9 +54,13 @@ tx_next t = length t.kept
 abbrev pub tx_next_ack : Tx → ℕ
 tx_next_ack t = prefix_len is_none t.kept
 
--- how many more SDUs the transmitting window takes (5.2.3.1.1 and 7.2)
+-- how many more SDUs the transmitting window takes where these are given (5.2.3.1.1 and 7.2)
+abbrev pub room_of : SnSize → List (Option Kept) → ℕ
+room_of size l = prefix_len is_none l + window size - length l
+
+-- the same of a transmitter
 abbrev pub room : Tx → ℕ
-room t = tx_next_ack t + window t.size - tx_next t
+room t = room_of t.size t.kept
 
 -- how many SDUs are not confirmed
 abbrev pub unconfirmed : Tx → ℕ
@@ -73,22 +81,42 @@ abbrev pub is_sent : Option Kept → Bool
 is_sent None = true
 is_sent (Some k) = nat_lt 0 (length k.flags)
 
+-- a number has a byte that waits for retransmission
+abbrev pub HasPending : List (Option Kept) → ℕ → Type 0
+HasPending l n = (p : ℕ) × (is_pending (at l n) p ≡ true)
+
+-- some number has
+abbrev pub SomePending : List (Option Kept) → Type 0
+SomePending l = (n : ℕ) × (p : ℕ) × (is_pending (at l n) p ≡ true)
+
+-- some number has a byte that waits for its first transmission
+abbrev pub SomeUnsent : List (Option Kept) → Type 0
+SomeUnsent l = (n : ℕ) × (is_unsent (at l n) ≡ true)
+
 -- a byte waits for retransmission
 abbrev pub PendingWaits : Tx → Type 0
-PendingWaits t = (n : ℕ) × (p : ℕ) × (is_pending (kept_at t n) p ≡ true)
+PendingWaits t = SomePending t.kept
 
 -- a byte waits for its first transmission
 abbrev pub UnsentWaits : Tx → Type 0
-UnsentWaits t = (n : ℕ) × (is_unsent (kept_at t n) ≡ true)
+UnsentWaits t = SomeUnsent t.kept
+
+-- a number was given, and a byte of it was sent
+abbrev pub HasBeenSent : List (Option Kept) → ℕ → Type 0
+HasBeenSent l n = (n < length l) × (is_sent (at l n) ≡ true)
 
 -- a byte of the number was sent
 abbrev pub IsSent : Tx → ℕ → Type 0
-IsSent t n = (n < tx_next t) × (is_sent (kept_at t n) ≡ true)
+IsSent t n = HasBeenSent t.kept n
 
 -- c is one more than the greatest number of which a byte was sent, or 0
-pub record IsSentCount (t : Tx) (c : ℕ) : Type 0 where
-  pub above : (n : ℕ) → IsSent t n → n < c
-  pub last : (c ≡ 0) ⊎ IsSent t (c - 1)
+pub record IsBegunCount (l : List (Option Kept)) (c : ℕ) : Type 0 where
+  pub above : (n : ℕ) → HasBeenSent l n → n < c
+  pub last : (c ≡ 0) ⊎ HasBeenSent l (c - 1)
+
+-- the same of a transmitter
+abbrev pub IsSentCount : Tx → ℕ → Type 0
+IsSentCount t c = IsBegunCount t.kept c
 
 -- what a transmitter is configured with stays
 pub record SameSettings (old new : Tx) : Type 0 where
@@ -109,9 +137,13 @@ header size a = if nat_lt 0 a then sn_end size + 2 else sn_end size
 
 -- of the number m the bytes from the place a up to but without b are next: the first maximal pending run of the lowest number that has
 -- pending bytes, or where there is none the unsent bytes of the lowest number that has some (5.2.3.1.1 and 5.3.2)
-pub data IsNext (t : Tx) (m : ℕ) (k : Kept) (a b : ℕ) : Type 0 where
-  pending : IsFirst (λ n. (p : ℕ) × (is_pending (kept_at t n) p ≡ true)) 0 m → kept_at t m ≡ Some k → IsFirstRun k.flags a b → IsNext t m k a b
-  unsent : (PendingWaits t → ⊥) → IsFirst (λ n. is_unsent (kept_at t n) ≡ true) 0 m → kept_at t m ≡ Some k → a ≡ length k.flags → b ≡ length k.sdu → IsNext t m k a b
+pub data IsNextOf (l : List (Option Kept)) (m : ℕ) (k : Kept) (a b : ℕ) : Type 0 where
+  pending : IsFirst (HasPending l) 0 m → at l m ≡ Some k → IsFirstRun k.flags a b → IsNextOf l m k a b
+  unsent : (SomePending l → ⊥) → IsFirst (λ n. is_unsent (at l n) ≡ true) 0 m → at l m ≡ Some k → a ≡ length k.flags → b ≡ length k.sdu → IsNextOf l m k a b
+
+-- the same of a transmitter
+abbrev pub IsNext : Tx → ℕ → Kept → ℕ → ℕ → Type 0
+IsNext t m k a b = IsNextOf t.kept m k a b
 
 -- the flags once the bytes from a up to but without e were sent: there is one for each byte up to e, and none of these is pending
 pub record Clears (old : List Bool) (a e : ℕ) (new : List Bool) : Type 0 where
@@ -119,14 +151,18 @@ pub record Clears (old : List Bool) (a e : ℕ) (new : List Bool) : Type 0 where
   pub sent : (p : ℕ) → a ≤ p → p < e → slice_index_or new p false ≡ false
   pub rest : (p : ℕ) → (p < a) ⊎ (e ≤ p) → slice_index_or new p false ≡ slice_index_or old p false
 
--- a PDU has its P bit, where so many fresh ones of its bytes were unsent, and old and new are the transmitter before and behind it
--- (5.3.3.2)
-pub data IsPolled (old new : Tx) (fresh : ℕ) : Type 0 where
-  by_pdus : 0 < fresh → 0 < old.poll_pdu → old.poll_pdu ≤ old.pdu_without_poll + 1 → IsPolled old new fresh
-  by_bytes : 0 < fresh → 0 < old.poll_byte → old.poll_byte ≤ old.byte_without_poll + fresh → IsPolled old new fresh
-  nothing_waits : (UnsentWaits new → ⊥) → (PendingWaits new → ⊥) → IsPolled old new fresh
-  full : (UnsentWaits new → ⊥) → room new ≡ 0 → IsPolled old new fresh
-  owed : old.poll_owed ≡ true → IsPolled old new fresh
+-- a PDU has its P bit, where so many fresh ones of its bytes were unsent: pollPDU, pollByte, PDU_WITHOUT_POLL, BYTE_WITHOUT_POLL and
+-- whether a poll is owed are those before it, and the SDUs those behind it (5.3.3.2)
+pub data HasPoll (poll_pdu poll_byte pdu_without_poll byte_without_poll : ℕ) (poll_owed : Bool) (size : SnSize) (l : List (Option Kept)) (fresh : ℕ) : Type 0 where
+  by_pdus : 0 < fresh → 0 < poll_pdu → poll_pdu ≤ pdu_without_poll + 1 → HasPoll poll_pdu poll_byte pdu_without_poll byte_without_poll poll_owed size l fresh
+  by_bytes : 0 < fresh → 0 < poll_byte → poll_byte ≤ byte_without_poll + fresh → HasPoll poll_pdu poll_byte pdu_without_poll byte_without_poll poll_owed size l fresh
+  nothing_waits : (SomeUnsent l → ⊥) → (SomePending l → ⊥) → HasPoll poll_pdu poll_byte pdu_without_poll byte_without_poll poll_owed size l fresh
+  full : (SomeUnsent l → ⊥) → room_of size l ≡ 0 → HasPoll poll_pdu poll_byte pdu_without_poll byte_without_poll poll_owed size l fresh
+  owed : poll_owed ≡ true → HasPoll poll_pdu poll_byte pdu_without_poll byte_without_poll poll_owed size l fresh
+
+-- the same, where old and new are the transmitter before and behind the PDU
+abbrev pub IsPolled : Tx → Tx → ℕ → Type 0
+IsPolled old new fresh = HasPoll old.poll_pdu old.poll_byte old.pdu_without_poll old.byte_without_poll old.poll_owed new.size new.kept fresh
 
 -- behind a PDU with a poll the counters are 0, no poll is owed, POLL_SN is the highest number of which a byte was sent, and
 -- t-PollRetransmit runs (5.3.3.2)
@@ -174,6 +210,6 @@ pub record Sends (old : Tx) (n m : ℕ) (v : Amd) (new : Tx) : Type 0 where
 -- a transmitter is granted one PDU of at most n octets: it sends one; or nothing waits; or the header of what is next and one byte have
 -- more octets (5.2.3.1.1)
 abbrev pub Grants : Tx → ℕ → TxGrant → Tx → Type 0
-Grants old n (Sent number bytes) new = (v : Amd) × (bytes ≡ bytes_of old.size v) × Sends old n number v new
+Grants old n (Sent number bytes) new = (v : Amd) × (bytes ≡ amd_bytes old.size v) × Sends old n number v new
 Grants old n Idle new = (PendingWaits old → ⊥) × (UnsentWaits old → ⊥) × (new ≡ old)
 Grants old n (Small need) new = (m : ℕ) × (k : Kept) × (a : ℕ) × (b : ℕ) × IsNext old m k a b × (need ≡ header old.size a + 1) × (n < need) × (new ≡ old)

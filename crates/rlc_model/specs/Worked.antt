@@ -5,7 +5,7 @@ use Rattle.link_base.specs.declared.rlc_words.Tag.{Tag}
 use Rattle.rlc_pdu.specs.declared.amd.Si.TheVariants.{Whole, First, Last, Middle}
 use Rattle.rlc_pdu.specs.Amd.{Amd}
 use Rattle.rlc_status.specs.declared.status.Status.{Status}
-use Rattle.rlc_status.specs.Format.{bytes_of}
+use Rattle.rlc_status.specs.Format.{status_bytes}
 use Rattle.rlc_model.specs.declared.receiver.Heard.TheVariants.{Stored, Complete}
 use Rattle.rlc_model.specs.declared.receiver.Made.TheVariants as made
 use Rattle.rlc_model.specs.declared.transmitter.TxGrant.TheVariants.{Sent, Idle, Small}
@@ -74,12 +74,12 @@ AsksForMissing = (r1 : Rx) × (r2 : Rx) × (r3 : Rx) × (r4 : Rx) × (r5 : Rx) �
     × (status_due r2 ≡ false)
     × ExpiresReassembly r2 r3
     × Makes r3 100 (made.Full asks 3) r4
-    × (bytes_of S12 asks ≡ 0 ∷ 3 ∷ 128 ∷ 0 ∷ 16 ∷ [])
+    × (status_bytes S12 asks ≡ 0 ∷ 3 ∷ 128 ∷ 0 ∷ 16 ∷ [])
     × Hears r4 (whole 1 true sdu1) (Complete 1 sdu1) r5
     × (status_due r5 ≡ false)
     × ExpiresProhibit r5 r6
     × Makes r6 100 (made.Full confirms 3) r7
-    × (bytes_of S12 confirms ≡ 0 ∷ 3 ∷ 0 ∷ [])
+    × (status_bytes S12 confirms ≡ 0 ∷ 3 ∷ 0 ∷ [])
 
 -- the transmitter sends the three, the last one with a poll. The first STATUS confirms the first and the third, and the second is
 -- sent again with a poll; the second STATUS confirms it

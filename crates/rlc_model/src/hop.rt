@@ -1,6 +1,6 @@
 // What goes over the air between the two sides of a port, and what the calls that join a transmitter and a receiver answer.
 use crate::{Heard, StatusHeard};
-use link_base::{Bytes, PortName, Way};
+use link_base::{Bytes, PortName, Side, Timer, Way};
 use rlc_pdu::AmdFault;
 use rlc_status::StatusFault;
 
@@ -60,4 +60,13 @@ pub enum HopHeard {
     BadAmd(AmdFault),
     /// D/C is 0 and they are no STATUS PDU for this reason, which is never want of memory; nothing changed.
     BadStatus(StatusFault),
+}
+
+/// What brings a port nearer to having nothing left to do.
+#[derive(Clone, Copy, Debug, PartialEq, Eq)]
+pub enum Move {
+    /// The side that sends in this way is granted one PDU, and the other side hears it at once.
+    Grant(Way),
+    /// This timer of this side runs out.
+    Expire(Side, Timer),
 }

@@ -9,7 +9,7 @@ mod laws;
 mod receiver;
 mod transmitter;
 
-pub use hop::{AirFault, HopGrant, HopHeard, Pdu};
+pub use hop::{AirFault, HopGrant, HopHeard, Move, Pdu};
 pub use laws::{a_lost_sdu_is_sent_again, segments_are_sent_and_heard};
 pub use receiver::{Heard, Made};
 pub use transmitter::{StatusHeard, TagList, TxGrant};

@@ -2,6 +2,7 @@
 use Rattle.std.specs.Prelude.{◌≡◌, ℕ, ◌+◌, ◌*◌, ◌/◌, ◌%◌, ◌<◌, ◌≤◌, Bool, true, false, ◌&&◌, ◌==◌, nat_lt, nat_le, if◌then◌else◌, Option, Some, None, List, [], ◌∷◌, ◌++◌, length, drop, slice_index}
 use Rattle.link_base.specs.declared.names.SnSize.{SnSize}
 use Rattle.link_base.specs.declared.names.SnSize.TheVariants.{S12, S18}
+use Rattle.link_base.specs.declared.limits.TheConstants.{LONGEST_RLC_SDU}
 use Rattle.link_base.specs.SequenceNumbers.{modulus}
 use Rattle.rlc_pdu.specs.declared.amd.AmdView.{AmdView}
 use Rattle.rlc_pdu.specs.declared.amd.AmdFault.{AmdFault}
@@ -21,7 +22,7 @@ pub record Amd : Type 0 where
 abbrev pub amd_of : AmdView → Amd
 amd_of v = record { sn = v.sn; poll = v.poll; si = v.si; so = v.so; body = v.body.now }
 
--- the two bits that stand for a part of an SDU (clause 6.2.3.4)
+-- the two bits that stand for the kind of a segment (clause 6.2.3.4)
 abbrev pub si_bits : Si → ℕ
 si_bits Whole = 0
 si_bits First = 1
@@ -67,8 +68,8 @@ abbrev pub has_so : ℕ → Bool
 has_so si = nat_le 2 si
 
 -- how many octets the header has with this SI
-abbrev pub header_len : SnSize → ℕ → ℕ
-header_len size si = if has_so si then sn_end size + 2 else sn_end size
+abbrev pub amd_header_len : SnSize → ℕ → ℕ
+amd_header_len size si = if has_so si then sn_end size + 2 else sn_end size
 
 -- SO, two octets behind SN; 0 where there is none (clause 6.2.3.5)
 abbrev pub so_field : SnSize → List ℕ → ℕ
@@ -76,13 +77,9 @@ so_field size octets = if has_so (si_field octets) then slice_index octets (sn_e
 
 -- the data field: all octets behind the header (clause 6.2.3.2)
 abbrev pub data_field : SnSize → List ℕ → List ℕ
-data_field size octets = drop (header_len size (si_field octets)) octets
+data_field size octets = drop (amd_header_len size (si_field octets)) octets
 
--- the length of the longest SDU: a PDCP SDU has at most 9,000 bytes (TS 38.323 clause 4.3.1), its PDCP header 3 and its SRAP header 2
-abbrev pub max_sdu : ℕ
-max_sdu = 9005
-
--- the SO of each part of an SDU: where it begins, which is at least 1, or 0 where the PDU has none (clause 6.2.3.5)
+-- the SO of each kind of segment: where it begins, which is at least 1, or 0 where the PDU has none (clause 6.2.3.5)
 abbrev pub IsOffset : Si → ℕ → Type 0
 IsOffset Whole so = so ≡ 0
 IsOffset First so = so ≡ 0
@@ -90,15 +87,15 @@ IsOffset Last so = 1 ≤ so
 IsOffset Middle so = 1 ≤ so
 
 -- the format can hold the PDU: its body has a byte, and ends within the longest SDU
-pub record Fits (size : SnSize) (v : Amd) : Type 0 where
+pub record AmdFits (size : SnSize) (v : Amd) : Type 0 where
   pub sn : v.sn < modulus size
   pub offset : IsOffset v.si v.so
   pub some : 1 ≤ length v.body
-  pub end : v.so + length v.body ≤ max_sdu
+  pub end : v.so + length v.body ≤ LONGEST_RLC_SDU
 
 -- the octets spell the PDU, whatever their R bits are (clause 6.2.2.4)
 pub record IsAmd (size : SnSize) (v : Amd) (octets : List ℕ) : Type 0 where
-  pub fits : Fits size v
+  pub fits : AmdFits size v
   pub dc : dc_field octets ≡ 1
   pub poll : p_field octets ≡ flag v.poll
   pub si : si_field octets ≡ si_bits v.si
@@ -119,8 +116,8 @@ so_octets Last so = (so / 256) ∷ (so % 256) ∷ []
 so_octets Middle so = (so / 256) ∷ (so % 256) ∷ []
 
 -- the one spelling of a PDU with R bits 0
-abbrev pub bytes_of : SnSize → Amd → List ℕ
-bytes_of size v = first_octets size v ++ so_octets v.si v.so ++ v.body
+abbrev pub amd_bytes : SnSize → Amd → List ℕ
+amd_bytes size v = first_octets size v ++ so_octets v.si v.so ++ v.body
 
 -- what may be wrong with octets, in the order in which it is looked for, each with its fault
 unfoldable pub fault_tests : SnSize → List ℕ → List (Bool × AmdFault)
@@ -130,20 +127,20 @@ fault_tests size octets =
     -- D/C says that it is a control PDU
     ∷ (dc_field octets == 0, Control)
     -- the header isn't whole
-    ∷ (nat_lt (length octets) (header_len size (si_field octets)), Short)
+    ∷ (nat_lt (length octets) (amd_header_len size (si_field octets)), Short)
     -- a segment that isn't the first begins at 0
     ∷ (has_so (si_field octets) && (so_field size octets == 0), ZeroOffset)
     -- no octet follows the header
     ∷ (length (data_field size octets) == 0, NoBody)
     -- the data field ends behind the longest SDU
-    ∷ (nat_lt max_sdu (so_field size octets + length (data_field size octets)), Long)
+    ∷ (nat_lt LONGEST_RLC_SDU (so_field size octets + length (data_field size octets)), Long)
     ∷ []
 
 -- the fault of the first test that holds
-abbrev pub first_of : List (Bool × AmdFault) → Option AmdFault
-first_of [] = None
-first_of (test ∷ later) = if test.0 then Some test.1 else first_of later
+abbrev pub first_holding : List (Bool × AmdFault) → Option AmdFault
+first_holding [] = None
+first_holding (test ∷ later) = if test.0 then Some test.1 else first_holding later
 
 -- this is the first fault of the octets
-abbrev pub IsFault : SnSize → List ℕ → AmdFault → Type 0
-IsFault size octets fault = first_of (fault_tests size octets) ≡ Some fault
+abbrev pub IsAmdFault : SnSize → List ℕ → AmdFault → Type 0
+IsAmdFault size octets fault = first_holding (fault_tests size octets) ≡ Some fault

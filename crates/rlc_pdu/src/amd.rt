@@ -1,12 +1,12 @@
 // The AMD PDU: its fields, and the bytes that spell it.
 ghost use Rattle.std.specs.Prelude.{◌≡◌, ◌<◌, ◌≤◌, length, IfOk, IfErr, IsOkAnd, IsErrOf};
-ghost use Rattle.rlc_pdu.specs.Amd.{Amd, amd_of, si_bits, has_so, sn_end, header_len, si_field, sn_field, so_field, r_field, Fits, IsAmd, bytes_of, IsFault};
+ghost use Rattle.rlc_pdu.specs.Amd.{Amd, amd_of, si_bits, has_so, sn_end, amd_header_len, si_field, sn_field, so_field, r_field, AmdFits, IsAmd, amd_bytes, IsAmdFault};
 
-use link_base::{Bytes, Memory, SnSize};
+use link_base::{Bytes, LONGEST_RLC_SDU, Memory, SnSize};
 use std::alloc::Global;
 use thiserror::Error;
 
-/// Which part of an RLC SDU a PDU carries: the field SI (TS 38.322 clause 6.2.3.4).
+/// Which kind of segment of an RLC SDU a PDU carries, or the whole SDU: the field SI (TS 38.322 clause 6.2.3.4).
 #[derive(Clone, Copy, Debug, PartialEq, Eq)]
 pub enum Si {
     /// The whole SDU.
@@ -57,7 +57,7 @@ pub struct AmdView<'a> {
     pub sn: u32,
     /// P: whether a status report is asked for (clause 6.2.3.7).
     pub poll: bool,
-    /// Which part of the SDU the body is.
+    /// Which segment of the SDU the body is.
     pub si: Si,
     /// SO: the place in the SDU, counted from 0, at which a `Last` or `Middle` segment begins, which is at least 1.
     /// With `Whole` and `First` the PDU has no SO, and this is 0 (clause 6.2.3.5).
@@ -86,10 +86,6 @@ pub enum AmdFault {
     Long,
 }
 
-// The longest SDU: a PDCP SDU of 9,000 bytes (TS 38.323 clause 4.3.1), with 3 bytes of a PDCP header and 2 of a SRAP
-// header.
-const MAX_SDU: usize = 9005;
-
 // D/C, bit 7 of the first byte, as a data PDU has it.
 const DATA_PDU: u8 = 0x80;
 
@@ -106,7 +102,7 @@ fn sn_end(size: SnSize) -> usize
 }
 
 fn header_len(size: SnSize, si: Si) -> usize
-    ensures { result ≡ header_len size (si_bits si) }
+    ensures { result ≡ amd_header_len size (si_bits si) }
 {
     sn_end(size) + if si.has_so() { 2 } else { 0 }
 }
@@ -124,7 +120,7 @@ fn read_sn(size: SnSize, bytes: &[u8]) -> u32
 // SO, or 0 where there is none.
 fn read_so(size: SnSize, si: Si, bytes: &[u8]) -> u16
     requires si { si_bits si ≡ si_field bytes.now }
-    requires whole { header_len size (si_bits si) ≤ length bytes.now }
+    requires whole { amd_header_len size (si_bits si) ≤ length bytes.now }
     ensures { result ≡ so_field size bytes.now }
 {
     if !si.has_so() {
@@ -144,8 +140,8 @@ pub fn decode_amd(size: SnSize, bytes: &[u8]) -> Result<AmdView<'_>, AmdFault>
     ensures found { IfOk result (λ view. IsAmd size (amd_of view) bytes.now) }
     ensures reads { (v : Amd) → IsAmd size v bytes.now → IsOkAnd result (λ view. amd_of view ≡ v) }
     // It is an Err exactly where they have a fault, and then with this fault.
-    ensures fault { IfErr result (IsFault size bytes.now) }
-    ensures refuses { (fault : AmdFault) → IsFault size bytes.now fault → IsErrOf result fault }
+    ensures fault { IfErr result (IsAmdFault size bytes.now) }
+    ensures refuses { (fault : AmdFault) → IsAmdFault size bytes.now fault → IsErrOf result fault }
 {
     let Some(&first) = bytes.first() else {
         return Err(AmdFault::Short);
@@ -166,7 +162,7 @@ pub fn decode_amd(size: SnSize, bytes: &[u8]) -> Result<AmdView<'_>, AmdFault>
     if body.is_empty() {
         return Err(AmdFault::NoBody);
     }
-    if body.len() > MAX_SDU.saturating_sub(usize::from(so)) {
+    if body.len() > (LONGEST_RLC_SDU as usize).saturating_sub(usize::from(so)) {
         return Err(AmdFault::Long);
     }
     Ok(AmdView {
@@ -180,8 +176,8 @@ pub fn decode_amd(size: SnSize, bytes: &[u8]) -> Result<AmdView<'_>, AmdFault>
 
 /// Writes a PDU that the format can hold, with R bits 0 (TS 38.322 clause 6.2.2.4). It fails only for want of memory.
 pub fn encode_amd(alloc: Global, size: SnSize, pdu: &AmdView<'_>) -> Result<Bytes, Memory>
-    requires { Fits size (amd_of pdu.now) }
-    ensures bytes { IfOk result (λ bytes. bytes ≡ bytes_of size (amd_of pdu.now)) }
+    requires { AmdFits size (amd_of pdu.now) }
+    ensures bytes { IfOk result (λ bytes. bytes ≡ amd_bytes size (amd_of pdu.now)) }
     ensures spelt { IfOk result (IsAmd size (amd_of pdu.now)) }
     ensures reserved { IfOk result (λ bytes. r_field size bytes ≡ 0) }
 {
@@ -189,13 +185,12 @@ pub fn encode_amd(alloc: Global, size: SnSize, pdu: &AmdView<'_>) -> Result<Byte
     let mut bytes = Bytes::from_vec(Vec::with_capacity(alloc, len)?);
     let first = DATA_PDU + u8::from(pdu.poll) * POLL + pdu.si.bits() * 16;
     let [_, high, middle, low] = pdu.sn.to_be_bytes();
-    match size {
-        SnSize::S12 => bytes.append(&[first + middle, low])?,
-        SnSize::S18 => bytes.append(&[first + high, middle, low])?,
-    }
-    if pdu.si.has_so() {
-        bytes.append(&pdu.so.to_be_bytes())?;
-    }
+    let [so_high, so_low] = pdu.so.to_be_bytes();
+    let header = match size {
+        SnSize::S12 => [first + middle, low, so_high, so_low, 0],
+        SnSize::S18 => [first + high, middle, low, so_high, so_low],
+    };
+    bytes.append(&header[..header_len(size, pdu.si)])?;
     bytes.append(pdu.body)?;
     Ok(bytes)
 }

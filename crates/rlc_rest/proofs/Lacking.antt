@@ -6,7 +6,7 @@ use Rattle.rlc_model.specs.Tx.{Tx, Kept, kept_at, is_pending, is_unsent, Pending
 use Rattle.rlc_model.specs.Rx.{Rx, Got, Done, Part, got, held_at, len_of, is_done}
 use Rattle.rlc_model.specs.Made.{IsWithin}
 use Rattle.rlc_law.specs.Hop.{Hop}
-use Rattle.rlc_rest.specs.Rest.{size_of, is_sent_at, lacks, waits_at, useful}
+use Rattle.rlc_rest.specs.Rest.{sdu_len, is_sent_at, lacks, waits_at, useful}
 use Rattle.rlc_law.proofs.Base.{kept_below}
 use Rattle.rlc_rest.proofs.Totals.{some_total}
 use Rattle.rlc_law.proofs.Invariant.{at, Invariant}
@@ -77,10 +77,10 @@ lacks_one h inv n k is open_n = elim (range_or_one (got h.rx n) 0 (length k.sdu)
     inside all p within (Some l) e = omega (arith, within l e, inv.rx.len n l e, ap (λ (l : List ℕ). length l) (inv.tx.sdu n k is))
 
 -- no place stays where nothing stays
-waits_none : (t : Tx) (n p : ℕ) → (PendingWaits t → ⊥) → (UnsentWaits t → ⊥) → p < size_of (kept_at t n) → waits_at (kept_at t n) p ≡ true → ⊥
+waits_none : (t : Tx) (n p : ℕ) → (PendingWaits t → ⊥) → (UnsentWaits t → ⊥) → p < sdu_len (kept_at t n) → waits_at (kept_at t n) p ≡ true → ⊥
 waits_none t n p none_pending none_unsent lt w = go (kept_at t n) refl lt w
   where
-    go : (o : Option Kept) → kept_at t n ≡ o → p < size_of o → waits_at o p ≡ true → ⊥
+    go : (o : Option Kept) → kept_at t n ≡ o → p < sdu_len o → waits_at o p ≡ true → ⊥
     go None e lt w = absurd (omega arith)
     go (Some k) e lt w = elim (or_cases (is_pending (Some k) p) (not (is_sent_at (Some k) p)) w) [
       | inl pends ↦ none_pending (n, p, ap (λ (o : Option Kept). is_pending o p) e ∙ pends)

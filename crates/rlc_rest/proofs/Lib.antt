@@ -8,3 +8,7 @@ pub mod Lacking
 pub mod Timers
 pub mod Statuses
 pub mod Pdus
+pub mod Bounds
+pub mod Choosing
+pub mod Falling
+pub mod HandedUp

@@ -7,7 +7,7 @@ use Rattle.rlc_model.specs.Retransmission.{RetransmitsLowest, stays, retransmits
 use Rattle.rlc_model.specs.declared.transmitter.TxGrant.TheVariants.{Sent, Idle, Small}
 use Rattle.rlc_model.specs.declared.transmitter.StatusHeard.TheVariants.{Acked, Old, Beyond}
 use Rattle.rlc_law.specs.Hop.{Hop, Event, Happens, Reaches}
-use Rattle.rlc_rest.specs.Progress.{IsWhole}
+use Rattle.rlc_rest.specs.Progress.{HoldsSdus}
 use Rattle.rlc_law.specs.Transmitter.{TransmitterCall, gives, grants, hears_status, expires_poll}
 use Rattle.rlc_law.proofs.Runs.{everywhere}
 use Rattle.rlc_rest.proofs.Waits.{all_sent}
@@ -20,14 +20,14 @@ abbrev pub OwedWaits : Tx → Type 0
 OwedWaits t = t.poll_owed ≡ true → PendingWaits t ⊎ UnsentWaits t ⊎ (tx_next_ack t ≡ tx_next t)
 
 -- behind the rule on the lowest unconfirmed number it is so
-lowest_waits : (old : Tx) (marks : List ℕ) (new : Tx) → IsWhole old → RetransmitsLowest old marks new → PendingWaits new ⊎ UnsentWaits new ⊎ (tx_next_ack new ≡ tx_next new)
+lowest_waits : (old : Tx) (marks : List ℕ) (new : Tx) → HoldsSdus old → RetransmitsLowest old marks new → PendingWaits new ⊎ UnsentWaits new ⊎ (tx_next_ack new ≡ tx_next new)
 lowest_waits old marks new whole (stays why no_marks same) = subst (λ (t : Tx). PendingWaits t ⊎ UnsentWaits t ⊎ (tx_next_ack t ≡ tx_next t)) (sym same) why
 lowest_waits old marks new whole (retransmits low) =
     let some : 0 < length low.before.flags = omega (arith, (whole (tx_next_ack old) low.before low.was).0, all_sent old (tx_next_ack old) low.before low.was low.none_unsent) in
     inl (tx_next_ack old, 0, ap (λ o. is_pending o 0) low.is ∙ (low.becomes.pends 0 some).1 (inr tt))
 
 -- each call of the transmitter keeps it
-pub call_waits : (old new : Tx) → IsWhole old → OwedWaits old → TransmitterCall old new → OwedWaits new
+pub call_waits : (old new : Tx) → HoldsSdus old → OwedWaits old → TransmitterCall old new → OwedWaits new
 call_waits old new whole was (gives tag sdu number some g) owes =
     let at_end : kept_at new (tx_next old) ≡ Some (record { tag = tag; sdu = sdu; flags = []; retx_count = None }) = ap (λ (t : Tx). kept_at t (tx_next old)) g.is ∙ get_or_push old.kept (Some (record { tag = tag; sdu = sdu; flags = []; retx_count = None })) None (tx_next old) refl in
     inr (inl (tx_next old, ap is_unsent at_end ∙ lt-ltb 0 (length sdu) some))
@@ -43,7 +43,7 @@ call_waits old new whole was (hears_status s (Acked tags marks) fits x) owes = e
 ]
 call_waits old new whole was (hears_status s (Old a next) fits x) owes = subst OwedWaits (sym x.4) was owes
 call_waits old new whole was (hears_status s (Beyond sn sent) fits x) owes = subst OwedWaits (sym x.3) was owes
-call_waits old new whole was (expires_poll marks x) owes = lowest_waits x.mid marks new (subst IsWhole (sym x.stopped) whole) x.lowest
+call_waits old new whole was (expires_poll marks x) owes = lowest_waits x.mid marks new (subst HoldsSdus (sym x.stopped) whole) x.lowest
 
 -- each event keeps it
 waits_each : (old : Hop) (e : Event) (new : Hop) → Reaches old → OwedWaits old.tx → Happens old e new → OwedWaits new.tx

@@ -3,24 +3,22 @@ use Rattle.std.proofs.Common.{◌≡◌, ◌≢◌, ◌⊎◌, inl, inr, ℕ, �
 use Rattle.std.specs.Option.{is_none, is_some}
 use Rattle.std.proofs.lemmas.Bool.{cases_Bool, cases_lt, cases_eq, false≢true, and_parts, and_from, cond-false, ltb-true}
 use Rattle.std.proofs.lemmas.Option.{slice_get-get_or}
-use Rattle.std.proofs.lemmas.List.Sums.{prefix_len-le-length}
-use Rattle.link_base.specs.declared.names.SnSize.{SnSize}
-use Rattle.link_base.specs.SequenceNumbers.{window, Near}
+use Rattle.link_base.specs.SequenceNumbers.{Near}
 use Rattle.rlc_pdu.specs.Amd.{Amd}
 use Rattle.rlc_model.specs.Pdu.{IsPiece, end_of, is_end, byte_at}
 use Rattle.rlc_model.specs.Tx.{Tx, Kept, kept_at, tx_next, tx_next_ack, is_pending, IsNext, pending, unsent, owed, Sends, unconfirmed}
 use Rattle.rlc_model.specs.Rx.{Rx, Got, got, held_at, is_done, rx_next, IsRepeat, Stores, Completes, Hears}
 use Rattle.rlc_model.specs.declared.receiver.Heard.{Heard}
 use Rattle.rlc_model.specs.declared.receiver.Heard.TheVariants.{Stored, Complete, Repeat, Outside, Conflict}
-use Rattle.rlc_model.specs.Air.{IsFresh}
 use Rattle.rlc_law.specs.Hop.{Hop, Grant, Reaches}
 use Rattle.rlc_law.specs.Hop as events
 use Rattle.rlc_law.proofs.Lists.{contains_here}
-use Rattle.rlc_rest.specs.Rest.{bit, sum_below, count_below, size_of, lacks, waits_at, missing, bytes, pendings, forgotten, useful, stage, major, scale, minor, rest, DataFalls}
+use Rattle.rlc_rest.specs.Rest.{one_if, sum_below, count_below, sdu_len, lacks, waits_at, missing, bytes, pendings, forgotten, useful, distance, major, scale, minor, rest, DataFalls}
 use Rattle.rlc_law.proofs.Base.{below_rx_next, done_of, kept_below, near_one}
 use Rattle.rlc_rest.proofs.Sums.{sum_le, count_lt, major_falls, minor_falls}
 use Rattle.rlc_rest.proofs.Totals.{unconfirmed_sum, total_le, total_lt, total_some, some_total, same_ack, small_minor, stage_le}
 use Rattle.rlc_rest.proofs.Lacking.{range_or_one, held_lacks, lacks_not_done, lacks_none}
+use Rattle.rlc_law.proofs.Moving.{fresh_sent}
 use Rattle.rlc_law.proofs.Invariant.{at}
 use Rattle.rlc_law.proofs.Inductive.{reaches_inv, own_number}
 use Rattle.rlc_law.proofs.Runs.{reaches_more}
@@ -59,24 +57,19 @@ module _ (h : Hop) (run : Reaches h) (n m : ℕ) (v : Amd) (t : Tx) (s : Sends h
   run1 : Reaches h1
   run1 = reaches_more h (Grant n) h1 run (events.sends m v t s)
 
-  -- the PDU isn't stale
-  fresh : IsFresh h.rx.size m (rx_next h.rx)
-  fresh = subst (λ (z : SnSize). rx_next h.rx ≤ m + window z) (sym (reaches_inv h run).size)
-      (omega (arith, prefix_len-le-length is_done h.rx.received, (reaches_inv h run).rx.long, (reaches_inv h run).tx.long, (reaches_inv h run).tx.within m s.kept was))
-
-  -- so it is read under its own number
+  -- the PDU isn't stale, so it is read under its own number
   own_m : (x : ℕ) → Near h.rx.size v.sn (rx_next h.rx) x → x ≡ m
-  own_m x near = near_one h.rx.size v.sn (rx_next h.rx) x m near (own_number h1 (reaches_inv h1 run1) (record { number = m; view = v }) (contains_here (record { number = m; view = v }) h.pdus) fresh)
+  own_m x near = near_one h.rx.size v.sn (rx_next h.rx) x m near (own_number h1 (reaches_inv h1 run1) (record { number = m; view = v }) (contains_here (record { number = m; view = v }) h.pdus) (fresh_sent h run n m v t s))
 
   -- and is a piece
   is_piece : IsPiece (at h.given m) v
   is_piece = ((reaches_inv h1 run1).pdus (record { number = m; view = v }) (contains_here (record { number = m; view = v }) h.pdus)).piece
 
   -- sizes and what is confirmed are the same
-  size_same : (j : ℕ) → size_of (kept_at t j) ≡ size_of (kept_at h.tx j)
+  size_same : (j : ℕ) → sdu_len (kept_at t j) ≡ sdu_len (kept_at h.tx j)
   size_same j = elim (cases_eq j m) [
-    | inl e ↦ ap size_of (ap (kept_at t) e ∙ s.this) ∙ sym (ap size_of (ap (kept_at h.tx) e ∙ was))
-    | inr ne ↦ ap size_of (s.others j ne)
+    | inl e ↦ ap sdu_len (ap (kept_at t) e ∙ s.this) ∙ sym (ap sdu_len (ap (kept_at h.tx) e ∙ was))
+    | inr ne ↦ ap sdu_len (s.others j ne)
   ]
 
   -- no number is confirmed by it
@@ -94,7 +87,7 @@ module _ (h : Hop) (run : Reaches h) (n m : ℕ) (v : Amd) (t : Tx) (s : Sends h
 
   -- as many stay unconfirmed
   unconfirmed_le : unconfirmed t ≤ unconfirmed h.tx
-  unconfirmed_le = omega (arith, unconfirmed_sum t, unconfirmed_sum h.tx, ap (λ (k : ℕ). sum_below (λ j. bit (is_some (kept_at t j))) k) s.long, sum_le (λ j. bit (is_some (kept_at t j))) (λ j. bit (is_some (kept_at h.tx j))) (tx_next h.tx) (λ j lt. omega (arith, ap bit (some_same j))))
+  unconfirmed_le = omega (arith, unconfirmed_sum t, unconfirmed_sum h.tx, ap (λ (k : ℕ). sum_below (λ j. one_if (is_some (kept_at t j))) k) s.long, sum_le (λ j. one_if (is_some (kept_at t j))) (λ j. one_if (is_some (kept_at h.tx j))) (tx_next h.tx) (λ j lt. omega (arith, ap one_if (some_same j))))
 
   -- TX_Next_Ack is the same
   ack_same : tx_next_ack t ≡ tx_next_ack h.tx
@@ -118,12 +111,12 @@ module _ (h : Hop) (run : Reaches h) (n m : ℕ) (v : Amd) (t : Tx) (s : Sends h
       (here : lacks (got r m) p0 ≡ false) (less : (j p : ℕ) → lacks (got r j) p ≡ true → lacks (got h.rx j) p ≡ true) where
     new_falls : rest t r < rest h.tx h.rx
     new_falls =
-        let size_m : size_of (kept_at h.tx m) ≡ length s.kept.sdu = ap size_of was in
+        let size_m : sdu_len (kept_at h.tx m) ≡ length s.kept.sdu = ap sdu_len was in
         let fewer : missing t r < missing h.tx h.rx = total_lt (λ o g p. lacks g p) (λ o g p. lacks g p) h.tx h.rx t r s.long m m_below (λ j lt. inr (size_same j, λ p lp e. less j p e))
         (omega (
           arith,
           ap (λ (k : ℕ). count_below (lacks (got r m)) k) (size_same m),
-          count_lt (lacks (got r m)) (lacks (got h.rx m)) (size_of (kept_at h.tx m)) p0 (λ p lp e. less m p e) (omega (arith, size_m, e_within)) here lacked,
+          count_lt (lacks (got r m)) (lacks (got h.rx m)) (sdu_len (kept_at h.tx m)) p0 (λ p lp e. less m p e) (omega (arith, size_m, e_within)) here lacked,
         )) in
         major_falls (major h.tx h.rx) (major t r) (scale h.tx h.rx) (scale t r) (minor h.tx h.rx) (minor t r) (omega (arith, fewer, unconfirmed_le)) (omega (arith, bytes_le r)) (small_minor t r (stage_le t r))
 
@@ -250,12 +243,12 @@ module _ (h : Hop) (run : Reaches h) (n m : ℕ) (v : Amd) (t : Tx) (s : Sends h
 
     pendings_lt : pendings t r1 < pendings h.tx h.rx
     pendings_lt =
-        let size_m : size_of (kept_at h.tx m) ≡ length s.kept.sdu = ap size_of was in
+        let size_m : sdu_len (kept_at h.tx m) ≡ length s.kept.sdu = ap sdu_len was in
         total_lt (λ o g p. is_pending o p) (λ o g p. is_pending o p) h.tx h.rx t r1 s.long m m_below (λ j lt. inr (size_same j, λ p lp e. pends_before j p e))
         (omega (
           arith,
           ap (λ (k : ℕ). count_below (is_pending (kept_at t m)) k) (size_same m),
-          count_lt (is_pending (kept_at t m)) (is_pending (kept_at h.tx m)) (size_of (kept_at h.tx m)) s.a (λ p lp e. pends_before m p e) (omega (arith, size_m, e_within, sends_some h.tx n m v t s))
+          count_lt (is_pending (kept_at t m)) (is_pending (kept_at h.tx m)) (sdu_len (kept_at h.tx m)) s.a (λ p lp e. pends_before m p e) (omega (arith, size_m, e_within, sends_some h.tx n m v t s))
               (ap (λ (o : Option Kept). is_pending o s.a) s.this ∙ s.clears.sent s.a (omega arith) (sends_some h.tx n m v t s))
               (ap (λ (o : Option Kept). is_pending o s.a) was ∙ again.1),
         ))
@@ -291,7 +284,7 @@ module _ (h : Hop) (run : Reaches h) (n m : ℕ) (v : Amd) (t : Tx) (s : Sends h
       ]
     ]
 
-    stage_falls : stage t r1 ≤ stage h.tx h.rx
+    stage_falls : distance t r1 ≤ distance h.tx h.rx
     stage_falls =
         omega (
           arith,
@@ -311,7 +304,7 @@ module _ (h : Hop) (run : Reaches h) (n m : ℕ) (v : Amd) (t : Tx) (s : Sends h
 
   -- whatever the answer is
   hears_falls : (answer : Heard) (r : Rx) → Hears h.rx v answer r → rest t r < rest h.tx h.rx
-  hears_falls Outside r hears = absurd (hears.0 m (own_number h1 (reaches_inv h1 run1) (record { number = m; view = v }) (contains_here (record { number = m; view = v }) h.pdus) fresh))
+  hears_falls Outside r hears = absurd (hears.0 m (own_number h1 (reaches_inv h1 run1) (record { number = m; view = v }) (contains_here (record { number = m; view = v }) h.pdus) (fresh_sent h run n m v t s)))
   hears_falls Conflict r hears = absurd (no_conflict h.rx h.given hears.0 v (reaches_inv h run).rx (subst (λ (x : ℕ). IsPiece (at h.given x) v) (sym (own_m hears.0 hears.1)) is_piece) hears.3)
   hears_falls Repeat r hears = elim (range_or_one (got h.rx m) s.a s.e) [
     | inl all ↦ subst (λ (r : Rx). rest t r < rest h.tx h.rx) (sym hears.3) (old_falls all)

@@ -14,7 +14,7 @@ use Rattle.rlc_model.specs.Tx.{Tx, Kept, kept_at, tx_next, tx_next_ack, is_pendi
 use Rattle.rlc_model.specs.declared.transmitter.TxGrant.TheVariants.{Sent, Idle, Small}
 use Rattle.rlc_model.specs.Retransmission.{RetransmitsLowest, stays, retransmits, beyond_at, begins_past, not_sent, UpdatesSdu, confirmed, missing, rest, Acknowledges, ExpiresPoll}
 use Rattle.rlc_model.specs.declared.transmitter.StatusHeard.TheVariants.{Acked, Old, Beyond}
-use Rattle.rlc_rest.specs.Progress.{IsAbovePoll, EachBelowPending, Progress, IsWhole, EachCallProgresses}
+use Rattle.rlc_rest.specs.Progress.{IsAbovePoll, EachBelowPending, Progress, HoldsSdus, EachCallProgresses}
 use Rattle.rlc_law.specs.Transmitter.{gives, grants, hears_status, expires_poll}
 use Rattle.rlc_law.proofs.Base.{kept_below, from_next_ack}
 use Rattle.rlc_law.proofs.Pieces.{run_within, sends_within}
@@ -28,7 +28,7 @@ use Rattle.rlc_rest.proofs.Waits.{cases_unsent, cases_pending, all_sent}
 use Rattle.link_base.specs.declared.rlc_words.Tag.{Tag}
 
 -- a change that keeps the SDUs keeps them whole
-pub keeps_whole : (old new : Tx) → Keeps old new → IsWhole old → IsWhole new
+pub keeps_whole : (old new : Tx) → Keeps old new → HoldsSdus old → HoldsSdus new
 keeps_whole old new keeps whole n k' is =
     let was = keeps.from n k' is in
     let w = whole n was.0 was.1 in
@@ -40,7 +40,7 @@ sent_some : (k : Kept) → 0 < length k.flags → is_sent (Some k) ≡ true
 sent_some k lt = lt-ltb 0 (length k.flags) lt
 
 -- where a poll is owed, the rule leaves a transmitter that can go on
-pub lowest_some : (old : Tx) (marks : List ℕ) (new : Tx) → IsWhole old → old.poll_owed ≡ true → RetransmitsLowest old marks new → (n : ℕ) (k : Kept) → kept_at new n ≡ Some k → (new.poll_retransmit_runs ≡ true) ⊎ UnsentWaits new ⊎ ((new.poll_owed ≡ true) × PendingWaits new) ⊎ EachBelowPending new
+pub lowest_some : (old : Tx) (marks : List ℕ) (new : Tx) → HoldsSdus old → old.poll_owed ≡ true → RetransmitsLowest old marks new → (n : ℕ) (k : Kept) → kept_at new n ≡ Some k → (new.poll_retransmit_runs ≡ true) ⊎ UnsentWaits new ⊎ ((new.poll_owed ≡ true) × PendingWaits new) ⊎ EachBelowPending new
 lowest_some old marks new whole owes (stays why no_marks same) n k is = elim why [
   | inl pends ↦ inr (inr (inl (ap (λ (t : Tx). t.poll_owed) same ∙ owes, subst PendingWaits (sym same) pends)))
   | inr (inl unsents) ↦ inr (inl (subst UnsentWaits (sym same) unsents))
@@ -64,9 +64,9 @@ lowest_poll_sn old marks new (stays why no_marks same) = ap (λ (t : Tx). t.poll
 lowest_poll_sn old marks new (retransmits low) = ap (λ (t : Tx). t.poll_sn) low.same
 
 -- the expiry of t-PollRetransmit leaves a transmitter that can go on
-pub expires_progress : (old : Tx) (marks : List ℕ) (new : Tx) → IsWhole old → Progress old → ExpiresPoll old marks new → Progress new
+pub expires_progress : (old : Tx) (marks : List ℕ) (new : Tx) → HoldsSdus old → Progress old → ExpiresPoll old marks new → Progress new
 expires_progress old marks new whole progress x =
-    let mid_whole : IsWhole x.mid = subst IsWhole (sym x.stopped) whole in
+    let mid_whole : HoldsSdus x.mid = subst HoldsSdus (sym x.stopped) whole in
     record {
       some = lowest_some x.mid marks new mid_whole (ap (λ (t : Tx). t.poll_owed) x.stopped) x.lowest;
       polled = λ n sent above.
@@ -77,7 +77,7 @@ expires_progress old marks new whole progress x =
     }
 
 -- giving keeps SDUs whole
-pub gives_whole : (old new : Tx) (tag : Tag) (sdu : List ℕ) (number : ℕ) → 0 < length sdu → IsWhole old → Gives old tag sdu number new → IsWhole new
+pub gives_whole : (old new : Tx) (tag : Tag) (sdu : List ℕ) (number : ℕ) → 0 < length sdu → HoldsSdus old → Gives old tag sdu number new → HoldsSdus new
 gives_whole old new tag sdu number some whole g n k is =
     elim (pushed old.kept (Some (record { tag = tag; sdu = sdu; flags = []; retx_count = None })) n k (sym (ap (λ (t : Tx). kept_at t n) g.is) ∙ is)) [
       | inl e ↦ whole n k e
@@ -98,7 +98,7 @@ module _ (old new : Tx) (n m : ℕ) (v : Amd) (s : Sends old n m v new) where
   was_m = next_was old m s.kept s.a s.b s.next
 
   -- sending keeps SDUs whole
-  pub sends_whole : IsWhole old → IsWhole new
+  pub sends_whole : HoldsSdus old → HoldsSdus new
   sends_whole whole j k is = elim (cases_eq j m) [
     | inl e ↦
         let w = whole m s.kept was_m in
@@ -240,13 +240,13 @@ module _ (z : SnSize) (a n : ℕ) (len : ℕ) (some : 0 < len) where
   place_of (e ∷ es) fits good (inl h) = let r = one_place e fits.0 (λ b. good (inl b)) h in (r.0, r.1, inl r.2)
   place_of (e ∷ es) fits good (inr h) = let r = place_of es fits.1 (λ b. good (inr b)) h in (r.0, r.1, inr r.2)
 
-module _ (old new : Tx) (s : Status) (fits : StatusFits old.size s) (whole : IsWhole old) (tags : List Tag) (marks : List ℕ) (x : Acknowledges old s tags marks new) where
+module _ (old new : Tx) (s : Status) (fits : StatusFits old.size s) (whole : HoldsSdus old) (tags : List Tag) (marks : List ℕ) (x : Acknowledges old s tags marks new) where
   -- before the last rule the SDUs are kept
   mid_keeps : Keeps old x.mid
   mid_keeps = updates_keeps old x.a s x.missing_marks x.mid x.updates
 
   -- and whole
-  mid_whole : IsWhole x.mid
+  mid_whole : HoldsSdus x.mid
   mid_whole = keeps_whole old x.mid mid_keeps whole
 
   -- what is confirmed was all sent
@@ -369,8 +369,8 @@ module _ (old new : Tx) (s : Status) (fits : StatusFits old.size s) (whole : IsW
   acks_progress progress = record { some = acks_some progress; polled = acks_polled progress }
 
 -- so does a call that changes nothing
-same_both : (old new : Tx) → IsWhole old → Progress old → new ≡ old → IsWhole new × Progress new
-same_both old new whole progress is = (subst IsWhole (sym is) whole, subst Progress (sym is) progress)
+same_both : (old new : Tx) → HoldsSdus old → Progress old → new ≡ old → HoldsSdus new × Progress new
+same_both old new whole progress is = (subst HoldsSdus (sym is) whole, subst Progress (sym is) progress)
 
 pub each_call : EachCallProgresses
 each_call old new whole progress (gives tag sdu number some g) = (gives_whole old new tag sdu number some whole g, gives_progress old new tag sdu number some g)

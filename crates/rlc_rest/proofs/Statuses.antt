@@ -12,18 +12,17 @@ use Rattle.rlc_model.specs.Retransmission.{RetransmitsLowest, stays, retransmits
 use Rattle.rlc_model.specs.declared.transmitter.StatusHeard.{StatusHeard}
 use Rattle.rlc_model.specs.declared.transmitter.StatusHeard.TheVariants.{Acked, Old, Beyond}
 use Rattle.rlc_model.specs.Rx.{Rx, Got, Done, got, held_at, is_done, rx_next}
-use Rattle.rlc_model.specs.Made.{Reports}
+use Rattle.rlc_model.specs.Made.{WritesStatus}
 use Rattle.rlc_law.specs.Hop.{Hop, StatusMade, GrantStatus, Reaches}
 use Rattle.rlc_law.specs.Hop as events
-use Rattle.rlc_rest.specs.Rest.{bit, sum_below, size_of, is_sent_at, lacks, waits_at, total, missing, bytes, forgotten, useful, stage, major, scale, minor, rest, StatusFalls}
+use Rattle.rlc_rest.specs.Rest.{one_if, sum_below, sdu_len, is_sent_at, lacks, waits_at, total, missing, bytes, forgotten, useful, distance, major, scale, minor, rest, StatusFalls}
 use Rattle.rlc_law.proofs.Truth.{writes_le, writes_names, writes_missing}
 use Rattle.rlc_law.proofs.Receiver.{next_le_status, with}
 use Rattle.rlc_law.proofs.Pieces.{flag_within}
-use Rattle.rlc_law.proofs.Base.{two_windows, done_of as done_is, at_rx_next, done_below, window_pos, at_next_ack, next_ack_le, below_next_ack, kept_below, from_next_ack, near_one}
+use Rattle.rlc_law.proofs.Moving.{next_ack_le_rx_next, made_from, fresh_reported}
+use Rattle.rlc_law.proofs.Base.{two_windows, done_of as done_is, at_rx_next, done_below, at_next_ack, kept_below, from_next_ack, near_one}
 use Rattle.rlc_rest.proofs.Sums.{sum_le, sum_lt, major_falls, minor_falls}
 use Rattle.rlc_rest.proofs.Totals.{unconfirmed_sum, Narrows, total_le, total_some, some_total, same_ack, open_at, open_parts, parts_open, small_minor, stage_le, waits-pending}
-use Rattle.rlc_law.proofs.Invariant.{Invariant}
-use Rattle.rlc_model.specs.Air.{IsFreshStatus}
 use Rattle.rlc_law.proofs.Inductive.{reaches_inv, own_ack}
 use Rattle.rlc_law.proofs.Lists.{contains_here}
 use Rattle.rlc_law.proofs.Runs.{reaches_more}
@@ -46,14 +45,7 @@ stage_same false false false false z h e = omega arith
 unsent_waits_at : (k : Kept) (p : ℕ) → length k.flags ≤ p → waits_at (Some k) p ≡ true
 unsent_waits_at k p le = or_right (is_pending (Some k) p) (not (is_sent_at (Some k) p)) (not_from_false (nat_lt p (length k.flags)) (le-ltb p (length k.flags) le))
 
--- TX_Next_Ack is at most RX_Next
-next_ack_le_rx_next : (h : Hop) → Invariant h → tx_next_ack h.tx ≤ rx_next h.rx
-next_ack_le_rx_next h inv = elim (cases_lt (rx_next h.rx) (tx_next_ack h.tx)) [
-  | inl lt ↦ absurd (at_rx_next h.rx (inv.confirms (rx_next h.rx) (omega (arith, next_ack_le h.tx)) (below_next_ack h.tx (rx_next h.rx) lt)))
-  | inr le ↦ le
-]
-
-module _ (h : Hop) (run : Reaches h) (n a : ℕ) (s : Status) (made : Reports h.rx n a s (with h.rx h.rx.rx_highest_status h.rx.rx_next_status_trigger false h.rx.delayed_polls true)) (t : Tx) (tags : List Tag) (marks : List ℕ) (x : Acknowledges h.tx s tags marks t) (a_is : x.a ≡ a) where
+module _ (h : Hop) (run : Reaches h) (n a : ℕ) (s : Status) (made : WritesStatus h.rx n a s (with h.rx h.rx.rx_highest_status h.rx.rx_next_status_trigger false h.rx.delayed_polls true)) (t : Tx) (tags : List Tag) (marks : List ℕ) (x : Acknowledges h.tx s tags marks t) (a_is : x.a ≡ a) where
   -- the receiver once the STATUS is made
   abbrev r1 : Rx
   r1 = with h.rx h.rx.rx_highest_status h.rx.rx_next_status_trigger false h.rx.delayed_polls true
@@ -75,8 +67,8 @@ module _ (h : Hop) (run : Reaches h) (n a : ℕ) (s : Status) (made : Reports h.
       go (Some k') e =
           let was = (acks_keeps h.tx t s tags marks x).from n k' e in
           inr (
-            ap size_of e ∙ ap (λ (l : List ℕ). length l) was.2 ∙ sym (ap size_of was.1),
-            λ p lp is. ap (λ (o : Option Kept). g o (got h.rx n) p) was.1 ∙ each n was.0 k' was.1 e p (omega (arith, lp, ap size_of was.1)) (ap (λ (o : Option Kept). f o (got h.rx n) p) (sym e) ∙ is),
+            ap sdu_len e ∙ ap (λ (l : List ℕ). length l) was.2 ∙ sym (ap sdu_len was.1),
+            λ p lp is. ap (λ (o : Option Kept). g o (got h.rx n) p) was.1 ∙ each n was.0 k' was.1 e p (omega (arith, lp, ap sdu_len was.1)) (ap (λ (o : Option Kept). f o (got h.rx n) p) (sym e) ∙ is),
           )
 
   -- as many numbers are given
@@ -92,19 +84,19 @@ module _ (h : Hop) (run : Reaches h) (n a : ℕ) (s : Status) (made : Reports h.
   bytes_le = total_le (λ o g p. true) (λ o g p. true) h.tx h.rx t r1 long (λ n lt. narrow (λ o g p. true) (λ o g p. true) (λ n k k' was is p lp e. e) n)
 
   -- a number that is unconfirmed was so before
-  kept_bit : (n : ℕ) → bit (is_some (kept_at t n)) ≤ bit (is_some (kept_at h.tx n))
+  kept_bit : (n : ℕ) → one_if (is_some (kept_at t n)) ≤ one_if (is_some (kept_at h.tx n))
   kept_bit n = go (kept_at t n) refl
     where
-      go : (o : Option Kept) → kept_at t n ≡ o → bit (is_some (kept_at t n)) ≤ bit (is_some (kept_at h.tx n))
-      go None e = omega (arith, ap (λ (o : Option Kept). bit (is_some o)) e)
-      go (Some k') e = let was = (acks_keeps h.tx t s tags marks x).from n k' e in omega (arith, ap (λ (o : Option Kept). bit (is_some o)) e, ap (λ (o : Option Kept). bit (is_some o)) was.1)
+      go : (o : Option Kept) → kept_at t n ≡ o → one_if (is_some (kept_at t n)) ≤ one_if (is_some (kept_at h.tx n))
+      go None e = omega (arith, ap (λ (o : Option Kept). one_if (is_some o)) e)
+      go (Some k') e = let was = (acks_keeps h.tx t s tags marks x).from n k' e in omega (arith, ap (λ (o : Option Kept). one_if (is_some o)) e, ap (λ (o : Option Kept). one_if (is_some o)) was.1)
 
-  unconfirmed_old : unconfirmed t ≡ sum_below (λ n. bit (is_some (kept_at t n))) (tx_next h.tx)
-  unconfirmed_old = unconfirmed_sum t ∙ ap (λ (k : ℕ). sum_below (λ n. bit (is_some (kept_at t n))) k) long
+  unconfirmed_old : unconfirmed t ≡ sum_below (λ n. one_if (is_some (kept_at t n))) (tx_next h.tx)
+  unconfirmed_old = unconfirmed_sum t ∙ ap (λ (k : ℕ). sum_below (λ n. one_if (is_some (kept_at t n))) k) long
 
   -- no more are unconfirmed
   unconfirmed_le : unconfirmed t ≤ unconfirmed h.tx
-  unconfirmed_le = omega (arith, unconfirmed_old, unconfirmed_sum h.tx, sum_le (λ n. bit (is_some (kept_at t n))) (λ n. bit (is_some (kept_at h.tx n))) (tx_next h.tx) (λ n lt. kept_bit n))
+  unconfirmed_le = omega (arith, unconfirmed_old, unconfirmed_sum h.tx, sum_le (λ n. one_if (is_some (kept_at t n))) (λ n. one_if (is_some (kept_at h.tx n))) (tx_next h.tx) (λ n lt. kept_bit n))
 
   module _ (none_confirmed : unconfirmed h.tx ≤ unconfirmed t) where
     still : (n : ℕ) (k : Kept) → kept_at h.tx n ≡ Some k → kept_at t n ≡ None → ⊥
@@ -113,8 +105,8 @@ module _ (h : Hop) (run : Reaches h) (n a : ℕ) (s : Status) (made : Reports h.
       none_confirmed,
       unconfirmed_old,
       unconfirmed_sum h.tx,
-      sum_lt (λ n. bit (is_some (kept_at t n))) (λ n. bit (is_some (kept_at h.tx n))) (tx_next h.tx) n (λ n lt. kept_bit n) (kept_below h.tx n k was)
-          (omega (arith, ap (λ (o : Option Kept). bit (is_some o)) is, ap (λ (o : Option Kept). bit (is_some o)) was)),
+      sum_lt (λ n. one_if (is_some (kept_at t n))) (λ n. one_if (is_some (kept_at h.tx n))) (tx_next h.tx) n (λ n lt. kept_bit n) (kept_below h.tx n k was)
+          (omega (arith, ap (λ (o : Option Kept). one_if (is_some o)) is, ap (λ (o : Option Kept). one_if (is_some o)) was)),
     ))
 
     none_same : (n : ℕ) → is_none (kept_at t n) ≡ is_none (kept_at h.tx n)
@@ -288,14 +280,14 @@ module _ (h : Hop) (run : Reaches h) (n a : ℕ) (s : Status) (made : Reports h.
         let u = some_total (λ o g p. lacks g p && waits_at o p) h.tx h.rx some in
         go u.0 u.1 u.2 u.3 u.4 (kept_at h.tx u.0) refl (kept_at t u.0) refl
       where
-        go : (m p : ℕ) → m < tx_next h.tx → p < size_of (kept_at h.tx m) → (lacks (got h.rx m) p && waits_at (kept_at h.tx m) p) ≡ true → (o : Option Kept) → kept_at h.tx m ≡ o → (q : Option Kept) → kept_at t m ≡ q → 0 < useful t r1
-        go m p lm lp e None was q is = absurd (omega (arith, lp, ap size_of was))
+        go : (m p : ℕ) → m < tx_next h.tx → p < sdu_len (kept_at h.tx m) → (lacks (got h.rx m) p && waits_at (kept_at h.tx m) p) ≡ true → (o : Option Kept) → kept_at h.tx m ≡ o → (q : Option Kept) → kept_at t m ≡ q → 0 < useful t r1
+        go m p lm lp e None was q is = absurd (omega (arith, lp, ap sdu_len was))
         go m p lm lp e (Some k) was None is = absurd (still m k was is)
         go m p lm lp e (Some k) was (Some k') is =
             let parts = and_parts (lacks (got h.rx m) p) (waits_at (kept_at h.tx m) p) e in
             let from = (acks_keeps h.tx t s tags marks x).from m k' is in
             let sdu : length k'.sdu ≡ length k.sdu = ap (λ (l : List ℕ). length l) from.2 ∙ ap (λ (k : Kept). length k.sdu) (same_Some from.0 k (sym from.1 ∙ was)) in
-            total_some (λ o g p. lacks g p && waits_at o p) t r1 m p (omega (arith, long, lm)) (omega (arith, lp, ap size_of was, ap size_of is, sdu))
+            total_some (λ o g p. lacks g p && waits_at o p) t r1 m p (omega (arith, long, lm)) (omega (arith, lp, ap sdu_len was, ap sdu_len is, sdu))
             (and_from (lacks (got h.rx m) p) (waits_at (kept_at t m) p) parts.0 (ap (λ (o : Option Kept). waits_at o p) is ∙ waits_on m k k' was is p (sym (ap (λ (o : Option Kept). waits_at o p) was) ∙ parts.1)))
 
     ack_not_done : is_done (got h.rx (tx_next_ack h.tx)) ≡ false
@@ -306,7 +298,7 @@ module _ (h : Hop) (run : Reaches h) (n a : ℕ) (s : Status) (made : Reports h.
           absurd (ack_open (omega (arith, done_below h.rx (tx_next_ack h.tx) is, (reaches_inv h run).rx.long, (reaches_inv h run).tx.long)) is)
     ]
 
-    stage_falls : stage t r1 ≤ stage h.tx h.rx
+    stage_falls : distance t r1 ≤ distance h.tx h.rx
     stage_falls =
         let same_z : cond t.poll_owed (cond (is_done (got h.rx (tx_next_ack t))) 1 3) 2 ≡ (let z : ℕ = cond h.tx.poll_owed (cond (is_done (got h.rx (tx_next_ack h.tx))) 1 3) 2 in z) =
         ap (λ (m : ℕ). cond t.poll_owed (cond (is_done (got h.rx m)) 1 3) 2) ack_same ∙ ap (λ (o : Bool). cond o (cond (is_done (got h.rx (tx_next_ack h.tx))) 1 3) 2) (ap (λ (t : Tx). t.poll_owed) is_mid ∙ x.updates.poll_owed) in
@@ -329,7 +321,7 @@ module _ (h : Hop) (run : Reaches h) (n a : ℕ) (s : Status) (made : Reports h.
     | inr same ↦ minor_falls (major h.tx h.rx) (major t r1) (scale h.tx h.rx) (scale t r1) (minor h.tx h.rx) (minor t r1) (omega (arith, missing_le, unconfirmed_le)) (omega (arith, bytes_le)) (minor_less same)
   ]
 
-module _ (h : Hop) (run : Reaches h) (n a : ℕ) (s : Status) (made : Reports h.rx n a s (with h.rx h.rx.rx_highest_status h.rx.rx_next_status_trigger false h.rx.delayed_polls true)) (t : Tx) where
+module _ (h : Hop) (run : Reaches h) (n a : ℕ) (s : Status) (made : WritesStatus h.rx n a s (with h.rx h.rx.rx_highest_status h.rx.rx_next_status_trigger false h.rx.delayed_polls true)) (t : Tx) where
   -- the STATUS made
   abbrev this : StatusMade
   this = record { ack = a; status = s }
@@ -340,26 +332,18 @@ module _ (h : Hop) (run : Reaches h) (n a : ℕ) (s : Status) (made : Reports h.
 
   -- it can be reached
   run1 : Reaches h1
-  run1 = reaches_more h (GrantStatus n) h1 run (events.reports a s (with h.rx h.rx.rx_highest_status h.rx.rx_next_status_trigger false h.rx.delayed_polls true) made)
+  run1 = reaches_more h (GrantStatus n) h1 run (events.makes_status a s (with h.rx h.rx.rx_highest_status h.rx.rx_next_status_trigger false h.rx.delayed_polls true) made)
 
-  -- its ACK is from TX_Next_Ack on
-  past : tx_next_ack h.tx ≤ a
-  past = omega (arith, next_ack_le_rx_next h (reaches_inv h run), (writes_le h.rx (reaches_inv h run).sound.parts (n - 3) (rx_next h.rx) s.nacks a (next_le_status h.rx (reaches_inv h run).sound) made.writes).0)
-
-  -- so it isn't stale
-  fresh : IsFreshStatus h.tx.size a (tx_next_ack h.tx)
-  fresh = omega (arith, past, window_pos h.tx.size)
-
-  -- and is read with its own ACK
+  -- its ACK isn't stale, so it is read as its own
   own_a : (b : ℕ) → Near h.tx.size s.ack (tx_next_ack h.tx + 1) b → b ≡ a
-  own_a b near = near_one h.tx.size s.ack (tx_next_ack h.tx + 1) b a near (own_ack h1 (reaches_inv h1 run1) this (contains_here this h.statuses) fresh)
+  own_a b near = near_one h.tx.size s.ack (tx_next_ack h.tx + 1) b a near (own_ack h1 (reaches_inv h1 run1) this (contains_here this h.statuses) (fresh_reported h run n a s _ made))
 
   -- whatever the answer is
   heard_falls : (answer : StatusHeard) → HearsStatus h.tx s answer t → rest t (with h.rx h.rx.rx_highest_status h.rx.rx_next_status_trigger false h.rx.delayed_polls true) < rest h.tx h.rx
-  heard_falls (Beyond sn sent) hears = absurd (none_beyond h1 run1 this (contains_here this h.statuses) fresh hears.0)
-  heard_falls (Old b next) hears = absurd (omega (arith, own_a b hears.1, hears.2, hears.3, past))
+  heard_falls (Beyond sn sent) hears = absurd (none_beyond h1 run1 this (contains_here this h.statuses) (fresh_reported h run n a s _ made) hears.0)
+  heard_falls (Old b next) hears = absurd (omega (arith, own_a b hears.1, hears.2, hears.3, made_from h run n a s _ made))
   heard_falls (Acked tags marks) hears = status_less h run n a s made t tags marks hears (own_a hears.a hears.ack)
 
 pub status_falls : StatusFalls
 status_falls h run n a s r answer t made hears = subst (λ (r : Rx). rest t r < rest h.tx h.rx) (sym made.after)
-    (heard_falls h run n a s (subst (Reports h.rx n a s) made.after made) t answer hears)
+    (heard_falls h run n a s (subst (WritesStatus h.rx n a s) made.after made) t answer hears)

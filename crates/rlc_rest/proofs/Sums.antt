@@ -1,9 +1,9 @@
 -- Counts and sums below a number, and the measure of a drain.
-use Rattle.std.proofs.Common.{◌≡◌, ℕ, zero, suc, ◌+◌, ◌*◌, ◌<◌, ◌≤◌, Bool, true, false, cond, ◌||◌, refl, sym, ◌∙◌, ap, subst, arith, inl, inr, mul-le-mul, List, [], ◌∷◌, length, get_or}
+use Rattle.std.proofs.Common.{◌≡◌, ◌≢◌, ℕ, zero, suc, ◌+◌, ◌*◌, ◌<◌, ◌≤◌, Bool, true, false, cond, ◌||◌, refl, sym, ◌∙◌, ap, subst, arith, inl, inr, mul-le-mul, List, [], ◌∷◌, length, get_or}
 use Rattle.std.proofs.lemmas.Bool.{cases_Bool, cases_eq, cases_lt, false≢true, cond-true, cond-false}
 use Rattle.std.specs.List.{count_by}
 use Rattle.std.proofs.lemmas.List.Sums.{sum_by-cons}
-use Rattle.rlc_rest.specs.Rest.{bit, count_below, sum_below}
+use Rattle.rlc_rest.specs.Rest.{one_if, count_below, sum_below}
 
 -- a test that implies another counts no more
 one_le : (b c : Bool) → (b ≡ true → c ≡ true) → cond b 1 0 ≤ cond c 1 0
@@ -20,10 +20,26 @@ pub count_lt : (f g : ℕ → Bool) (k p : ℕ) → ((p : ℕ) → p < k → f p
 count_lt f g zero p h lt no_f yes_g = absurd (omega arith)
 count_lt f g (suc k) p h lt no_f yes_g = elim (cases_eq p k) [
   | inl e ↦
-      let fk : bit (f k) ≡ 0 = cond-false (f k) 1 0 (ap f (sym e) ∙ no_f) in
-      let gk : bit (g k) ≡ 1 = cond-true (g k) 1 0 (ap g (sym e) ∙ yes_g) in
+      let fk : one_if (f k) ≡ 0 = cond-false (f k) 1 0 (ap f (sym e) ∙ no_f) in
+      let gk : one_if (g k) ≡ 1 = cond-true (g k) 1 0 (ap g (sym e) ∙ yes_g) in
       omega (arith, fk, gk, count_le f g k (λ q lq. h q (omega arith)))
   | inr ne ↦ omega (arith, one_le (f k) (g k) (h k (omega arith)), count_lt f g k p (λ q lq. h q (omega arith)) (omega arith) no_f yes_g)
+]
+
+-- tests that pass alike count alike
+pub count_same : (f g : ℕ → Bool) (k : ℕ) → ((n : ℕ) → n < k → f n ≡ g n) → count_below f k ≡ count_below g k
+count_same f g zero same = refl
+count_same f g (suc k) same = omega (arith, ap {B = ℕ} one_if (same k (omega arith)), count_same f g k (λ n lt. same n (omega arith)))
+
+-- one less passes where one doesn't pass any more
+pub count_less : (f g : ℕ → Bool) (k m : ℕ) → m < k → f m ≡ false → g m ≡ true → ((n : ℕ) → n ≢ m → f n ≡ g n) → count_below f k + 1 ≡ count_below g k
+count_less f g zero m lt no_f yes_g same = absurd (omega (arith, lt))
+count_less f g (suc k) m lt no_f yes_g same = elim (cases_eq m k) [
+  | inl e ↦
+      let f_k : one_if (f k) ≡ 0 = ap {B = ℕ} one_if (sym (ap f e) ∙ no_f) in
+      let g_k : one_if (g k) ≡ 1 = ap {B = ℕ} one_if (sym (ap g e) ∙ yes_g) in
+      omega (arith, f_k, g_k, count_same f g k (λ n below. same n (omega (arith, e, below))))
+  | inr ne ↦ omega (arith, ap {B = ℕ} one_if (same k (omega (arith, ne))), count_less f g k m (omega (arith, lt, ne)) no_f yes_g same)
 ]
 
 -- a count below k is at most k
@@ -38,10 +54,10 @@ count_two f g u (suc k) a b c =
     let rest = count_two f g u k (λ p lt. a p (omega arith)) (λ p lt. b p (omega arith)) (λ p lt. c p (omega arith)) in
     elim (cases_Bool (f k)) [
       | inl fk ↦
-          let gk : bit (g k) ≡ 0 = cond-false (g k) 1 0 (c k (omega arith) fk) in
+          let gk : one_if (g k) ≡ 0 = cond-false (g k) 1 0 (c k (omega arith) fk) in
           omega (arith, one_le (f k) (u k) (a k (omega arith)), gk, rest)
       | inr fk ↦
-          let z : bit (f k) ≡ 0 = cond-false (f k) 1 0 fk in
+          let z : one_if (f k) ≡ 0 = cond-false (f k) 1 0 fk in
           omega (arith, one_le (g k) (u k) (b k (omega arith)), z, rest)
     ]
 
@@ -92,7 +108,7 @@ some_count f zero some = absurd (omega arith)
 some_count f (suc k) some = elim (cases_Bool (f k)) [
   | inl here ↦ (k, omega arith, here)
   | inr none ↦
-      let z : bit (f k) ≡ 0 = cond-false (f k) 1 0 none in
+      let z : one_if (f k) ≡ 0 = cond-false (f k) 1 0 none in
       let p = some_count f k (omega arith) in (p.0, omega (arith, p.1), p.2)
 ]
 
@@ -122,7 +138,7 @@ pub count_both : (f g : ℕ → Bool) (k : ℕ) → count_below (λ p. f p || g 
 count_both f g zero = omega arith
 count_both f g (suc k) = omega (arith, one_or (f k) (g k), count_both f g k)
   where
-    one_or : (b c : Bool) → bit (b || c) ≤ bit b + bit c
+    one_or : (b c : Bool) → one_if (b || c) ≤ one_if b + one_if c
     one_or true c = omega arith
     one_or false c = omega arith
 
@@ -132,6 +148,6 @@ sum_first f zero = omega arith
 sum_first f (suc k) = omega (arith, sum_first f k)
 
 -- how many elements of a list pass, counted by their places
-pub count_sum : {X : Type 0} (p : X → Bool) (d : X) (xs : List X) → count_by p xs ≡ sum_below (λ n. bit (p (get_or xs n d))) (length xs)
+pub count_sum : {X : Type 0} (p : X → Bool) (d : X) (xs : List X) → count_by p xs ≡ sum_below (λ n. one_if (p (get_or xs n d))) (length xs)
 count_sum p d [] = refl
-count_sum p d (x ∷ xs) = omega (arith, sum_by-cons (λ y. cond (p y) 1 0) x xs, count_sum p d xs, sum_first (λ n. bit (p (get_or (x ∷ xs) n d))) (length xs))
+count_sum p d (x ∷ xs) = omega (arith, sum_by-cons (λ y. cond (p y) 1 0) x xs, count_sum p d xs, sum_first (λ n. one_if (p (get_or (x ∷ xs) n d))) (length xs))

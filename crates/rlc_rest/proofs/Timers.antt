@@ -6,7 +6,7 @@ use Rattle.rlc_model.specs.Tx.{Tx, Kept, kept_at, tx_next, tx_next_ack, is_pendi
 use Rattle.rlc_model.specs.Retransmission.{RetransmitsLowest, stays, retransmits}
 use Rattle.rlc_model.specs.Rx.{Rx, got, is_done}
 use Rattle.rlc_law.specs.Hop.{Hop, Reaches}
-use Rattle.rlc_rest.specs.Rest.{bit, sum_below, size_of, lacks, waits_at, missing, bytes, pendings, forgotten, useful, stage, major, scale, minor, rest, PollFalls, ProhibitFalls}
+use Rattle.rlc_rest.specs.Rest.{one_if, sum_below, sdu_len, lacks, waits_at, missing, bytes, pendings, forgotten, useful, distance, major, scale, minor, rest, PollFalls, ProhibitFalls}
 use Rattle.rlc_rest.proofs.Sums.{count_all, sum_le, minor_falls}
 use Rattle.rlc_rest.proofs.Totals.{unconfirmed_sum, total_le, total_one, total_some, same_ack, not_forgotten, waits-pending}
 use Rattle.rlc_law.proofs.Invariant.{Invariant}
@@ -18,7 +18,7 @@ use Rattle.rlc_rest.proofs.Lacking.{not_done, lacks_one, no_useful, stage_two, s
 -- without the prohibit timer less is left
 prohibit_less : (t : Tx) (r : Rx) → r.status_prohibit_runs ≡ true → rest t (record r { status_prohibit_runs = false }) < rest t r
 prohibit_less t r is =
-    let one : bit r.status_prohibit_runs ≡ 1 = ap bit is in
+    let one : one_if r.status_prohibit_runs ≡ 1 = ap one_if is in
     minor_falls (major t r) (major t r) (scale t r) (scale t r) (minor t r) (minor t (record r { status_prohibit_runs = false })) (omega arith) (omega arith) (omega (arith, one))
 
 pub prohibit_falls : ProhibitFalls
@@ -41,7 +41,7 @@ module _ (h : Hop) (run : Reaches h) (none_pending : PendingWaits h.tx → ⊥) 
   ]
 
   -- so the stage is 2
-  stage_before : stage h.tx h.rx ≡ 2
+  stage_before : distance h.tx h.rx ≡ 2
   stage_before = stage_two (nat_lt 0 (useful h.tx h.rx)) h.rx.status_triggered (is_done (got h.rx (tx_next_ack h.tx))) (is_done (got h.rx (tx_next_ack h.tx))) h.tx.poll_owed
       (elim (cases_Bool (nat_lt 0 (useful h.tx h.rx))) [
         | inl some ↦ absurd (no_useful h.tx h.rx none_pending none_unsent (ltb-true 0 (useful h.tx h.rx) some))
@@ -53,10 +53,10 @@ module _ (h : Hop) (run : Reaches h) (none_pending : PendingWaits h.tx → ⊥) 
     m : ℕ
     m = tx_next_ack h.tx
 
-    size_same : (n : ℕ) → size_of (kept_at t n) ≡ size_of (kept_at h.tx n)
+    size_same : (n : ℕ) → sdu_len (kept_at t n) ≡ sdu_len (kept_at h.tx n)
     size_same n = elim (cases_eq n (tx_next_ack h.tx)) [
-      | inl e ↦ ap size_of (ap (kept_at t) e ∙ is_j) ∙ ap (λ (l : List ℕ). length l) sdu ∙ sym (ap size_of (ap (kept_at h.tx) e ∙ was))
-      | inr ne ↦ ap size_of (others n ne)
+      | inl e ↦ ap sdu_len (ap (kept_at t) e ∙ is_j) ∙ ap (λ (l : List ℕ). length l) sdu ∙ sym (ap sdu_len (ap (kept_at h.tx) e ∙ was))
+      | inr ne ↦ ap sdu_len (others n ne)
     ]
 
     some_same : (n : ℕ) → is_some (kept_at t n) ≡ is_some (kept_at h.tx n)
@@ -78,7 +78,7 @@ module _ (h : Hop) (run : Reaches h) (none_pending : PendingWaits h.tx → ⊥) 
     pending_m p lt = ap (λ (o : Option Kept). is_pending o p) is_j ∙ all_pending p lt
 
     unconfirmed_le : unconfirmed t ≤ unconfirmed h.tx
-    unconfirmed_le = omega (arith, unconfirmed_sum t, unconfirmed_sum h.tx, ap (λ (k : ℕ). sum_below (λ n. bit (is_some (kept_at t n))) k) long, sum_le (λ n. bit (is_some (kept_at t n))) (λ n. bit (is_some (kept_at h.tx n))) (tx_next h.tx) (λ n lt. omega (arith, ap bit (some_same n))))
+    unconfirmed_le = omega (arith, unconfirmed_sum t, unconfirmed_sum h.tx, ap (λ (k : ℕ). sum_below (λ n. one_if (is_some (kept_at t n))) k) long, sum_le (λ n. one_if (is_some (kept_at t n))) (λ n. one_if (is_some (kept_at h.tx n))) (tx_next h.tx) (λ n lt. omega (arith, ap one_if (some_same n))))
 
     missing_le : missing t h.rx ≤ missing h.tx h.rx
     missing_le = total_le (λ o g p. lacks g p) (λ o g p. lacks g p) h.tx h.rx t h.rx long (λ n lt. inr (size_same n, λ p lp e. e))
@@ -91,9 +91,9 @@ module _ (h : Hop) (run : Reaches h) (none_pending : PendingWaits h.tx → ⊥) 
         (λ n lt ne. inr (size_same n, λ p lp e. sym (ap (λ (o : Option Kept). is_pending o p) (others n ne)) ∙ e))
         (omega (
           arith,
-          count_all (is_pending (kept_at t (tx_next_ack h.tx))) (size_of (kept_at t (tx_next_ack h.tx))),
+          count_all (is_pending (kept_at t (tx_next_ack h.tx))) (sdu_len (kept_at t (tx_next_ack h.tx))),
           size_same (tx_next_ack h.tx),
-          ap size_of was,
+          ap sdu_len was,
           ap (λ (l : List ℕ). length l) ((reaches_inv h run).tx.sdu (tx_next_ack h.tx) j was),
           ((reaches_inv h run).sdus (tx_next_ack h.tx) (omega (arith, (reaches_inv h run).tx.long))).1,
         ))
@@ -101,20 +101,20 @@ module _ (h : Hop) (run : Reaches h) (none_pending : PendingWaits h.tx → ⊥) 
     forgotten_le : forgotten t h.rx ≤ forgotten h.tx h.rx
     forgotten_le = total_le (λ o g p. lacks g p && not (waits_at o p)) (λ o g p. lacks g p && not (waits_at o p)) h.tx h.rx t h.rx long (λ n lt. inr (size_same n, narrower n))
       where
-        narrower : (n p : ℕ) → p < size_of (kept_at h.tx n) → (lacks (got h.rx n) p && not (waits_at (kept_at t n) p)) ≡ true → (lacks (got h.rx n) p && not (waits_at (kept_at h.tx n) p)) ≡ true
+        narrower : (n p : ℕ) → p < sdu_len (kept_at h.tx n) → (lacks (got h.rx n) p && not (waits_at (kept_at t n) p)) ≡ true → (lacks (got h.rx n) p && not (waits_at (kept_at h.tx n) p)) ≡ true
         narrower n p lp e = elim (cases_eq n (tx_next_ack h.tx)) [
           | inl here ↦
-              let long_j : p < length j.sdu = omega (arith, lp, ap size_of (ap (kept_at h.tx) here ∙ was)) in
+              let long_j : p < length j.sdu = omega (arith, lp, ap sdu_len (ap (kept_at h.tx) here ∙ was)) in
               absurd (false≢true (sym (not_forgotten (kept_at t n) (got h.rx n) p (ap (λ (n : ℕ). is_pending (kept_at t n) p) here ∙ pending_m p long_j)) ∙ e))
           | inr ne ↦ ap (λ (o : Option Kept). lacks (got h.rx n) p && not (waits_at o p)) (sym (others n ne)) ∙ e
         ]
 
-    stage_after : stage t h.rx ≤ 1
+    stage_after : distance t h.rx ≤ 1
     stage_after = elim (cases_Bool (is_done (got h.rx (tx_next_ack h.tx)))) [
       | inl done ↦ stage_one (nat_lt 0 (useful t h.rx) || (h.rx.status_triggered && is_done (got h.rx (tx_next_ack t)))) t.poll_owed (is_done (got h.rx (tx_next_ack t))) owes (ap (λ (n : ℕ). is_done (got h.rx n)) ack_same ∙ done)
       | inr open_m ↦
           let one = lacks_one h (reaches_inv h run) (tx_next_ack h.tx) j was (not_done (got h.rx (tx_next_ack h.tx)) open_m) in
-          let some : 0 < useful t h.rx = total_some (λ o g p. lacks g p && waits_at o p) t h.rx (tx_next_ack h.tx) one.0 (omega (arith, long)) (omega (arith, one.1, size_same (tx_next_ack h.tx), ap size_of was))
+          let some : 0 < useful t h.rx = total_some (λ o g p. lacks g p && waits_at o p) t h.rx (tx_next_ack h.tx) one.0 (omega (arith, long)) (omega (arith, one.1, size_same (tx_next_ack h.tx), ap sdu_len was))
           (and_from (lacks (got h.rx (tx_next_ack h.tx)) one.0) (waits_at (kept_at t (tx_next_ack h.tx)) one.0) one.2 (waits-pending (kept_at t (tx_next_ack h.tx)) one.0 (pending_m one.0 one.1))) in
           omega (arith, stage_zero (nat_lt 0 (useful t h.rx)) (h.rx.status_triggered && is_done (got h.rx (tx_next_ack t))) (cond t.poll_owed (cond (is_done (got h.rx (tx_next_ack t))) 1 3) 2) (lt-ltb 0 (useful t h.rx) some))
     ]

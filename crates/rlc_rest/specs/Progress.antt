@@ -19,12 +19,12 @@ pub record Progress (t : Tx) : Type 0 where
   pub polled : (n : ℕ) → IsSent t n → IsAbovePoll t n → UnsentWaits t
 
 -- each SDU kept has a byte, and no more of its bytes are sent than there are
-abbrev pub IsWhole : Tx → Type 0
-IsWhole t = (n : ℕ) (k : Kept) → kept_at t n ≡ Some k → (0 < length k.sdu) × (length k.flags ≤ length k.sdu)
+abbrev pub HoldsSdus : Tx → Type 0
+HoldsSdus t = (n : ℕ) (k : Kept) → kept_at t n ≡ Some k → (0 < length k.sdu) × (length k.flags ≤ length k.sdu)
 
 -- each call of a transmitter that can go on leaves one that can, whatever STATUS it hears
 abbrev pub EachCallProgresses : Type 0
-EachCallProgresses = (old new : Tx) → IsWhole old → Progress old → TransmitterCall old new → IsWhole new × Progress new
+EachCallProgresses = (old new : Tx) → HoldsSdus old → Progress old → TransmitterCall old new → HoldsSdus new × Progress new
 
 -- the transmitter of a hop can go on, after every run
 abbrev pub Progresses : Type 0

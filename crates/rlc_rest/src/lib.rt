@@ -6,4 +6,7 @@
 
 mod laws;
 
-pub use laws::{transmitter_progresses, what_is_left_falls};
+pub use laws::{
+    next_moves_end, poll_timer_runs, sdus_are_counted, transmitter_progresses, what_is_left_falls,
+    what_is_left_is_bounded,
+};

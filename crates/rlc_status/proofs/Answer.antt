@@ -6,7 +6,7 @@ use Rattle.link_base.specs.declared.names.SnSize.{SnSize}
 use Rattle.rlc_status.specs.declared.status.Status.{Status}
 use Rattle.rlc_status.specs.declared.fault.StatusFault.{StatusFault}
 use Rattle.rlc_status.specs.declared.fault.StatusFault.TheVariants.{Memory}
-use Rattle.rlc_status.specs.Format.{StatusFits, IsStatus, IsFault}
+use Rattle.rlc_status.specs.Format.{StatusFits, IsStatus, IsStatusFault}
 use Rattle.rlc_status.proofs.Octets.{spelt_fits}
 use Rattle.rlc_status.proofs.Unique.{one_reading}
 use Rattle.rlc_status.proofs.Faults.{no_fault, one_fault}
@@ -17,7 +17,7 @@ by_memory Memory = inl refl
 by_memory fault = inr (λ e. cc)
 
 -- what is spelt is read
-pub read : (size : SnSize) (octets : List ℕ) (r : Result Status StatusFault) → IfOk r (λ status. IsStatus size status octets) → IfErr r (λ fault. fault ≢ Memory → IsFault size octets fault)
+pub read : (size : SnSize) (octets : List ℕ) (r : Result Status StatusFault) → IfOk r (λ status. IsStatus size status octets) → IfErr r (λ fault. fault ≢ Memory → IsStatusFault size octets fault)
     → (status : Status) → IsStatus size status octets → (r ≡ Ok status) ⊎ (r ≡ Err Memory)
 read size octets (Ok found) ok err status t = inl (ap (λ (s : Status). Ok s) (one_reading size found status octets ok t))
 read size octets (Err fault) ok err status t =
@@ -32,8 +32,8 @@ fits size octets (Ok found) all ok = spelt_fits size found octets (All-from_get_
 fits size octets (Err fault) all ok = tt
 
 -- the first fault is found
-pub refused : (size : SnSize) (octets : List ℕ) (r : Result Status StatusFault) → IfOk r (λ status. IsStatus size status octets) → IfErr r (λ fault. fault ≢ Memory → IsFault size octets fault)
-    → (fault : StatusFault) → IsFault size octets fault → (r ≡ Err fault) ⊎ (r ≡ Err Memory)
+pub refused : (size : SnSize) (octets : List ℕ) (r : Result Status StatusFault) → IfOk r (λ status. IsStatus size status octets) → IfErr r (λ fault. fault ≢ Memory → IsStatusFault size octets fault)
+    → (fault : StatusFault) → IsStatusFault size octets fault → (r ≡ Err fault) ⊎ (r ≡ Err Memory)
 refused size octets (Ok found) ok err fault w = absurd (no_fault size found octets fault ok w)
 refused size octets (Err other) ok err fault w =
     elim (by_memory other) [

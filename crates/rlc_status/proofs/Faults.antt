@@ -8,8 +8,8 @@ use Rattle.rlc_status.specs.declared.status.Nack.{Nack}
 use Rattle.rlc_status.specs.declared.status.Status.{Status}
 use Rattle.rlc_status.specs.declared.fault.StatusFault.{StatusFault}
 use Rattle.rlc_status.specs.declared.fault.StatusFault.TheVariants.{Short, IsData, ReservedType, ZeroRange, BackPart, Trailing}
-use Rattle.rlc_status.specs.Format.{bit, Then, IsFree, IsHeader, IsHeaderFault, IsNackHead, IsPart, IsRange, SpellsNack, IsNack, IsNacks, IsStatus, e1_before, IsWrong, nack_len_at, IsNackFault, IsFaultBehind, IsFault}
-use Rattle.rlc_status.specs.Format.IsFault.{of_header, of_nack, of_end}
+use Rattle.rlc_status.specs.Format.{bit, Then, IsFree, IsHeader, IsHeaderFault, IsNackHead, IsPart, IsRange, SpellsNack, IsNack, IsNacks, IsStatus, e1_before, IsWrongNack, nack_len_at, IsNackFault, IsFaultBehind, IsStatusFault}
+use Rattle.rlc_status.specs.Format.IsStatusFault.{of_header, of_nack, of_end}
 use Rattle.rlc_status.proofs.Unique.{behind, header_one, nack_one, status_one}
 
 -- E2 and E3 tell the length
@@ -41,13 +41,13 @@ whole size nack e1 front rest s =
     omega (arith, heads, parts, ranges, at, part_len nack.part t.front t.first, range_len nack.range t.rest t.second)
 
 -- no right element is wrong
-right : (size : SnSize) (nack : Nack) (e1 : ℕ) (front : List ℕ) (fault : StatusFault) → IsNack IsFree size nack e1 front → IsWrong nack fault → ⊥
+right : (size : SnSize) (nack : Nack) (e1 : ℕ) (front : List ℕ) (fault : StatusFault) → IsNack IsFree size nack e1 front → IsWrongNack nack fault → ⊥
 right size nack e1 front ZeroRange n w = n.range w
 right size nack e1 front BackPart n w = absurd (omega (arith, w.4, n.order w.0 w.1 w.2 w.3))
 right size nack e1 front fault n w = absurd w
 
 -- an element is wrong in one way at most
-wrong_one : (nack : Nack) (f g : StatusFault) → IsWrong nack f → IsWrong nack g → f ≡ g
+wrong_one : (nack : Nack) (f g : StatusFault) → IsWrongNack nack f → IsWrongNack nack g → f ≡ g
 wrong_one nack ZeroRange ZeroRange w w' = refl
 wrong_one nack BackPart BackPart w w' = refl
 wrong_one nack ZeroRange BackPart w w' = absurd (omega (arith, sym (ap (λ (r : Option ℕ). unwrap_or r 1) w) ∙ w'.3))
@@ -58,7 +58,7 @@ wrong_one nack f g w w' = absurd w
 
 -- the octets begin with a whole element that is wrong
 abbrev BeginsWrong : SnSize → List ℕ → StatusFault → Type 0
-BeginsWrong size octets fault = (nack : Nack) × (e1 : ℕ) × IsWrong nack fault × Then (SpellsNack IsFree size nack e1) (λ rest. Unit {0}) octets
+BeginsWrong size octets fault = (nack : Nack) × (e1 : ℕ) × IsWrongNack nack fault × Then (SpellsNack IsFree size nack e1) (λ rest. Unit {0}) octets
 
 -- the element at the front isn't whole, or is whole and wrong
 by_whole : (size : SnSize) (octets : List ℕ) (fault : StatusFault) → IsNackFault size octets fault → ((fault ≡ Short) × (length octets < nack_len_at size octets)) ⊎ BeginsWrong size octets fault
@@ -74,7 +74,7 @@ no_nack_fault : (size : SnSize) (nack : Nack) (e1 : ℕ) (octets : List ℕ) (fa
 no_nack_fault size nack e1 octets fault Q t w =
     elim (by_whole size octets fault w) [
       | inl short ↦ absurd (not_short size nack e1 octets Q (record { front = t.front; rest = t.rest; both = t.both; first = t.first.spelt; second = t.second }) short.1)
-      | inr wrong ↦ right size nack e1 t.front fault t.first (subst (λ (n : Nack). IsWrong n fault) (nack_one size wrong.0 nack _ _ _ _ _ _ wrong.3.first t.first.spelt (sym wrong.3.both ∙ t.both)).0 wrong.2)
+      | inr wrong ↦ right size nack e1 t.front fault t.first (subst (λ (n : Nack). IsWrongNack n fault) (nack_one size wrong.0 nack _ _ _ _ _ _ wrong.3.first t.first.spelt (sym wrong.3.both ∙ t.both)).0 wrong.2)
     ]
 
 -- the element at the front has one fault at most
@@ -87,7 +87,7 @@ nack_fault_one size octets f g w w' =
       ]
       | inr wrong ↦ elim (by_whole size octets g w') [
         | inl short' ↦ absurd (not_short size wrong.0 wrong.1 octets _ wrong.3 short'.1)
-        | inr wrong' ↦ wrong_one wrong'.0 f g (subst (λ (n : Nack). IsWrong n f) (nack_one size wrong.0 wrong'.0 _ _ _ _ _ _ wrong.3.first wrong'.3.first (sym wrong.3.both ∙ wrong'.3.both)).0 wrong.2) wrong'.2
+        | inr wrong' ↦ wrong_one wrong'.0 f g (subst (λ (n : Nack). IsWrongNack n f) (nack_one size wrong.0 wrong'.0 _ _ _ _ _ _ wrong.3.first wrong'.3.first (sym wrong.3.both ∙ wrong'.3.both)).0 wrong.2) wrong'.2
       ]
     ]
 
@@ -150,7 +150,7 @@ in_status size status ack nacks fault front rest octets t both t' =
     no_behind size status.nacks nacks fault t.rest rest t'.rest t.second headers.1 (sym headers.2) t'.second
 
 -- a STATUS has no fault
-pub no_fault : (size : SnSize) (status : Status) (octets : List ℕ) (fault : StatusFault) → IsStatus size status octets → IsFault size octets fault → ⊥
+pub no_fault : (size : SnSize) (status : Status) (octets : List ℕ) (fault : StatusFault) → IsStatus size status octets → IsStatusFault size octets fault → ⊥
 no_fault size status octets fault t (of_header w) = after_header size _ _ octets _ fault t w
 no_fault size status octets fault t (of_nack ack nacks w) = in_status size status ack nacks fault octets [] octets t (sym (append-nil octets)) w
 no_fault size status octets Trailing t (of_end other w) =
@@ -158,7 +158,7 @@ no_fault size status octets Trailing t (of_end other w) =
     absurd (omega (arith, ap length none, w.second))
 
 -- octets have one fault at most
-pub one_fault : (size : SnSize) (octets : List ℕ) (f g : StatusFault) → IsFault size octets f → IsFault size octets g → f ≡ g
+pub one_fault : (size : SnSize) (octets : List ℕ) (f g : StatusFault) → IsStatusFault size octets f → IsStatusFault size octets g → f ≡ g
 one_fault size octets f g (of_header w) (of_header w') = header_fault_one octets f g w w'
 one_fault size octets f g (of_header w) (of_nack ack' nacks' w') = absurd (after_header size _ _ octets _ f w' w)
 one_fault size octets f Trailing (of_header w) (of_end status' w') = absurd (header_right size _ _ w'.first.front (w'.first.rest ++ w'.rest) f w'.first.first (subst (λ (o : List ℕ). IsHeaderFault o f) (w'.both ∙ behind _ _ w'.front w'.rest w'.first) w))

@@ -8,8 +8,8 @@ use Rattle.link_base.specs.declared.names.SnSize.TheVariants.{S12, S18}
 use Rattle.link_base.specs.SequenceNumbers.{modulus}
 use Rattle.rlc_status.specs.declared.status.Nack.{Nack}
 use Rattle.rlc_status.specs.declared.status.Status.{Status}
-use Rattle.rlc_status.specs.Format.{AllFit, StatusFits, bit, Then, IsFree, IsZero, IsHeader, IsNackHead, IsPart, IsRange, SpellsNack, IsNacks, IsStatus, IsPlainStatus, e1_before, header_of, nack_head_of, part_of, range_of, nack_of, nacks_of, bytes_of}
-use Rattle.rlc_status.specs.Laws.{AreOctets}
+use Rattle.rlc_status.specs.Format.{AllFit, StatusFits, bit, Then, IsFree, IsZero, IsHeader, IsNackHead, IsPart, IsRange, SpellsNack, IsNacks, IsStatus, IsPlainStatus, e1_before, header_of, nack_head_of, octets_of_part, octets_of_range, nack_of, nacks_of, status_bytes}
+use Rattle.link_base.specs.Octets.{AreOctets}
 
 -- the same, by recursion
 abbrev AreBelow : List ℕ → Type 0
@@ -52,7 +52,7 @@ head_octets S18 sn e1 e2 e3 (a ∷ b ∷ c ∷ []) h all =
 head_octets size sn e1 e2 e3 octets h all = absurd h
 
 -- of a part
-part_octets : (part : Option (ℕ × ℕ)) (octets : List ℕ) → IsPart part octets → AreBelow octets → octets ≡ part_of part
+part_octets : (part : Option (ℕ × ℕ)) (octets : List ℕ) → IsPart part octets → AreBelow octets → octets ≡ octets_of_part part
 part_octets None [] h all = refl
 part_octets (Some p) (a ∷ b ∷ c ∷ d ∷ []) h all =
     let first : a ≡ p.0 / 256 = omega (arith, h.0, all.1.0) in
@@ -63,7 +63,7 @@ part_octets (Some p) (a ∷ b ∷ c ∷ d ∷ []) h all =
 part_octets part octets h all = absurd h
 
 -- of a range
-range_octets : (range : Option ℕ) (octets : List ℕ) → IsRange range octets → octets ≡ range_of range
+range_octets : (range : Option ℕ) (octets : List ℕ) → IsRange range octets → octets ≡ octets_of_range range
 range_octets None [] h = refl
 range_octets (Some k) (a ∷ []) h = cc
 range_octets range octets h = absurd h
@@ -78,7 +78,7 @@ nack_octets size nack e1 octets s all =
     let part = part_octets nack.part t.front t.first second.0 in
     let range = range_octets nack.range t.rest t.second in
     s.both ∙ ap (λ (r : List ℕ). s.front ++ r) t.both ∙ sym (append_assoc s.front t.front t.rest) ∙ ap (λ (x : List ℕ). x ++ t.front ++ t.rest) head ∙ ap (λ (x : List ℕ). nack_head_of size nack.sn e1 (bit (is_some nack.part)) (bit (is_some nack.range)) ++ x ++ t.rest) part
-    ∙ ap (λ (x : List ℕ). nack_head_of size nack.sn e1 (bit (is_some nack.part)) (bit (is_some nack.range)) ++ part_of nack.part ++ x) range
+    ∙ ap (λ (x : List ℕ). nack_head_of size nack.sn e1 (bit (is_some nack.part)) (bit (is_some nack.range)) ++ octets_of_part nack.part ++ x) range
 
 -- of elements
 nacks_octets : (size : SnSize) (nacks : List Nack) (octets : List ℕ) → IsNacks IsZero size nacks octets → AreBelow octets → octets ≡ nacks_of size nacks
@@ -88,7 +88,7 @@ nacks_octets size (nack ∷ nacks) octets t all =
     t.both ∙ ap (λ (x : List ℕ). x ++ t.rest) (nack_octets size nack _ t.front t.first.spelt cut.0) ∙ ap (λ (x : List ℕ). nack_of size nack (e1_before nacks) ++ x) (nacks_octets size nacks t.rest t.second cut.1)
 
 -- of a STATUS
-pub plain_octets : (size : SnSize) (s : Status) (octets : List ℕ) → AreOctets octets → IsPlainStatus size s octets → octets ≡ bytes_of size s
+pub plain_octets : (size : SnSize) (s : Status) (octets : List ℕ) → AreOctets octets → IsPlainStatus size s octets → octets ≡ status_bytes size s
 plain_octets size s octets all t =
     let cut = both _ _ octets t (recursion_from_All (λ octet. octet < 256) octets all) in
     t.both ∙ ap (λ (x : List ℕ). x ++ t.rest) (header_octets size _ _ t.front t.first cut.0) ∙ ap (λ (x : List ℕ). header_of size s.ack (e1_before s.nacks) ++ x) (nacks_octets size s.nacks t.rest t.second cut.1)

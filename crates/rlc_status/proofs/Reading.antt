@@ -1,12 +1,12 @@
 -- What a decoder has read, and what it comes to.
-use Rattle.std.proofs.Common.{◌≡◌, ℕ, ◌<◌, Bool, true, false, List, [], ◌∷◌, ◌++◌, length, take, drop, refl, sym, ap, subst, ◌∙◌, append_assoc}
+use Rattle.std.proofs.Common.{◌≡◌, ℕ, ◌<◌, Bool, true, false, List, [], ◌∷◌, ◌++◌, length, take, drop, refl, sym, ap, subst, ◌∙◌, append_assoc, arith}
 use Rattle.std.proofs.lemmas.List.{append-nil, nil_from_length}
 use Rattle.link_base.specs.declared.names.SnSize.{SnSize}
 use Rattle.rlc_status.specs.declared.status.Nack.{Nack}
 use Rattle.rlc_status.specs.declared.fault.StatusFault.{StatusFault}
 use Rattle.rlc_status.specs.declared.fault.StatusFault.TheVariants.{Trailing}
-use Rattle.rlc_status.specs.Format.{bit, Then, IsFree, IsHeader, IsNack, IsNacks, IsStatus, e1_before, IsNackFault, IsFaultBehind, IsFault}
-use Rattle.rlc_status.specs.Format.IsFault.{of_end, of_nack}
+use Rattle.rlc_status.specs.Format.{bit, Then, IsFree, IsHeader, IsNack, IsNacks, IsStatus, e1_before, IsNackFault, IsFaultBehind, IsStatusFault, HasElement}
+use Rattle.rlc_status.specs.Format.IsStatusFault.{of_end, of_nack}
 use Rattle.rlc_status.proofs.Elements.{split}
 
 -- behind E1 stand these elements, and behind the last one, whose E1 is more, the rest
@@ -63,6 +63,23 @@ goes_on size ack nacks nack more rest behind octets was one =
     let parts = was.parts in
     record { e1 = was.e1; parts = record { front = parts.front; rest = parts.rest; both = parts.both; first = parts.first; second = read_more size was.e1 nacks nack more rest behind parts.rest parts.second one } }
 
+-- where an element is read, one stands behind the header
+pub has_element : (size : SnSize) (ack : ℕ) (nacks : List Nack) (more : Bool) (rest octets : List ℕ) → 0 < length nacks → HasRead size ack nacks more rest octets → HasElement size octets
+unfolding AreRead
+has_element size ack [] more rest octets some was = absurd (omega (arith, some))
+has_element size ack (nack ∷ nacks) more rest octets some was =
+    let parts = was.parts in
+    let one = parts.second in (
+      ack,
+      record {
+        front = parts.front;
+        rest = parts.rest;
+        both = parts.both;
+        first = subst (λ (e : ℕ). IsHeader IsFree size ack e parts.front) one.0 parts.first;
+        second = (nack, one.1, record { front = one.2.front; rest = one.2.rest; both = one.2.both; first = one.2.first; second = tt });
+      },
+    )
+
 -- a STATUS, and what is left behind it
 status_then : (size : SnSize) (ack : ℕ) (nacks : List Nack) (rest octets : List ℕ) → HasRead size ack nacks false rest octets → Then (IsStatus size (record { ack = ack; nacks = nacks })) (λ r. r ≡ rest) octets
 status_then size ack nacks rest octets was =
@@ -84,13 +101,13 @@ ends size ack nacks rest octets was none =
     subst (λ (o : List ℕ). IsStatus size (record { ack = ack; nacks = nacks }) o) whole status.first
 
 -- where something is left, that is the fault
-pub trails : (size : SnSize) (ack : ℕ) (nacks : List Nack) (rest octets : List ℕ) → HasRead size ack nacks false rest octets → 0 < length rest → IsFault size octets Trailing
+pub trails : (size : SnSize) (ack : ℕ) (nacks : List Nack) (rest octets : List ℕ) → HasRead size ack nacks false rest octets → 0 < length rest → IsStatusFault size octets Trailing
 trails size ack nacks rest octets was some =
     let status = status_then size ack nacks rest octets was in
     of_end (record { ack = ack; nacks = nacks }) (record { front = status.front; rest = status.rest; both = status.both; first = status.first; second = rw status.second some })
 
 -- where the next element has a fault, it is the first one
-pub fails : (size : SnSize) (ack : ℕ) (nacks : List Nack) (rest octets : List ℕ) (fault : StatusFault) → HasRead size ack nacks true rest octets → IsNackFault size rest fault → IsFault size octets fault
+pub fails : (size : SnSize) (ack : ℕ) (nacks : List Nack) (rest octets : List ℕ) (fault : StatusFault) → HasRead size ack nacks true rest octets → IsNackFault size rest fault → IsStatusFault size octets fault
 fails size ack nacks rest octets fault was wrong =
     let parts = was.parts in
     let here = read_to_fault size was.e1 nacks rest parts.rest fault parts.second wrong in

@@ -6,7 +6,7 @@ use Rattle.link_base.specs.declared.names.SnSize.{SnSize}
 use Rattle.link_base.specs.declared.names.SnSize.TheVariants.{S12, S18}
 use Rattle.rlc_status.specs.declared.status.Nack.{Nack}
 use Rattle.rlc_status.specs.declared.status.Status.{Status}
-use Rattle.rlc_status.specs.Format.{bit, e1_before, header_of, nack_head_of, part_of, range_of, nack_of, nacks_of, bytes_of, nack_head_len, nack_len, nacks_len, status_len}
+use Rattle.rlc_status.specs.Format.{bit, e1_before, header_of, nack_head_of, octets_of_part, octets_of_range, nack_of, nacks_of, status_bytes, nack_head_len, nack_len, nacks_len, status_len}
 
 -- a header has 3 octets
 length-header_of : (size : SnSize) (ack e1 : ℕ) → length (header_of size ack e1) ≡ 3
@@ -19,12 +19,12 @@ length-nack_head_of S12 sn e1 e2 e3 = refl
 length-nack_head_of S18 sn e1 e2 e3 = refl
 
 -- a part has 4
-length-part_of : (part : Option (ℕ × ℕ)) → length (part_of part) ≡ 4 * bit (is_some part)
+length-part_of : (part : Option (ℕ × ℕ)) → length (octets_of_part part) ≡ 4 * bit (is_some part)
 length-part_of None = refl
 length-part_of (Some part) = refl
 
 -- a range has 1
-length-range_of : (range : Option ℕ) → length (range_of range) ≡ bit (is_some range)
+length-range_of : (range : Option ℕ) → length (octets_of_range range) ≡ bit (is_some range)
 length-range_of None = refl
 length-range_of (Some range) = refl
 
@@ -32,7 +32,7 @@ length-range_of (Some range) = refl
 length-nack_of : (size : SnSize) (nack : Nack) (e1 : ℕ) → length (nack_of size nack e1) ≡ nack_len size nack
 length-nack_of size nack e1 =
     let head = nack_head_of size nack.sn e1 (bit (is_some nack.part)) (bit (is_some nack.range)) in
-    omega (arith, length-append (head ++ part_of nack.part) (range_of nack.range), length-append head (part_of nack.part), length-nack_head_of size nack.sn e1 (bit (is_some nack.part)) (bit (is_some nack.range)), length-part_of nack.part, length-range_of nack.range)
+    omega (arith, length-append (head ++ octets_of_part nack.part) (octets_of_range nack.range), length-append head (octets_of_part nack.part), length-nack_head_of size nack.sn e1 (bit (is_some nack.part)) (bit (is_some nack.range)), length-part_of nack.part, length-range_of nack.range)
 
 -- elements have the sum over all
 length-nacks_of : (size : SnSize) (nacks : List Nack) → length (nacks_of size nacks) ≡ nacks_len size nacks
@@ -41,5 +41,5 @@ length-nacks_of size (nack ∷ nacks) =
     omega (arith, length-append (nack_of size nack (e1_before nacks)) (nacks_of size nacks), length-nack_of size nack (e1_before nacks), length-nacks_of size nacks, sum_by-cons (nack_len size) nack nacks)
 
 -- and a STATUS has 3 more
-pub length-bytes_of : (size : SnSize) (status : Status) → length (bytes_of size status) ≡ status_len size status
+pub length-bytes_of : (size : SnSize) (status : Status) → length (status_bytes size status) ≡ status_len size status
 length-bytes_of size status = omega (arith, length-append (header_of size status.ack (e1_before status.nacks)) (nacks_of size status.nacks), length-header_of size status.ack (e1_before status.nacks), length-nacks_of size status.nacks)

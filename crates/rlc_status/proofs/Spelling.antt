@@ -6,7 +6,7 @@ use Rattle.link_base.specs.declared.names.SnSize.TheVariants.{S12, S18}
 use Rattle.link_base.specs.SequenceNumbers.{modulus}
 use Rattle.rlc_status.specs.declared.status.Nack.{Nack}
 use Rattle.rlc_status.specs.declared.status.Status.{Status}
-use Rattle.rlc_status.specs.Format.{NackFits, AllFit, StatusFits, bit, IsFree, IsZero, IsHeader, IsNackHead, IsPart, IsRange, SpellsNack, IsNack, IsNacks, IsStatus, IsPlainStatus, e1_before, header_of, nack_head_of, part_of, range_of, nack_of, nacks_of, bytes_of}
+use Rattle.rlc_status.specs.Format.{NackFits, AllFit, StatusFits, bit, IsFree, IsZero, IsHeader, IsNackHead, IsPart, IsRange, SpellsNack, IsNack, IsNacks, IsStatus, IsPlainStatus, e1_before, header_of, nack_head_of, octets_of_part, octets_of_range, nack_of, nacks_of, status_bytes}
 
 -- E1 is a bit
 e1_below : (nacks : List Nack) → e1_before nacks < 2
@@ -29,12 +29,12 @@ head_is S12 sn e1 e2 e3 x y z = (omega arith, omega arith, omega arith, omega ar
 head_is S18 sn e1 e2 e3 x y z = (omega arith, omega arith, omega arith, omega arith, omega arith)
 
 -- its part
-part_is : (part : Option (ℕ × ℕ)) → IsPart part (part_of part)
+part_is : (part : Option (ℕ × ℕ)) → IsPart part (octets_of_part part)
 part_is None = tt
 part_is (Some part) = (omega arith, omega arith)
 
 -- its range
-range_is : (range : Option ℕ) → IsRange range (range_of range)
+range_is : (range : Option ℕ) → IsRange range (octets_of_range range)
 range_is None = tt
 range_is (Some range) = refl
 
@@ -45,10 +45,10 @@ nack_is size nack e1 fits one =
     record {
       spelt = record {
         front = head;
-        rest = part_of nack.part ++ range_of nack.range;
-        both = append_assoc head (part_of nack.part) (range_of nack.range);
+        rest = octets_of_part nack.part ++ octets_of_range nack.range;
+        both = append_assoc head (octets_of_part nack.part) (octets_of_range nack.range);
         first = head_is size nack.sn e1 _ _ one (bit_below (is_some nack.part)) (bit_below (is_some nack.range));
-        second = record { front = part_of nack.part; rest = range_of nack.range; both = refl; first = part_is nack.part; second = range_is nack.range };
+        second = record { front = octets_of_part nack.part; rest = octets_of_range nack.range; both = refl; first = part_is nack.part; second = range_is nack.range };
       };
       range = λ e. absurd (omega (arith, (fits.range 0 e).0));
       order = fits.order;
@@ -60,7 +60,7 @@ nacks_are size [] fits = refl
 nacks_are size (nack ∷ nacks) fits = record { front = nack_of size nack (e1_before nacks); rest = nacks_of size nacks; both = refl; first = nack_is size nack _ fits.0 (e1_below nacks); second = nacks_are size nacks fits.1 }
 
 -- and the STATUS
-pub plain : (size : SnSize) (s : Status) → StatusFits size s → IsPlainStatus size s (bytes_of size s)
+pub plain : (size : SnSize) (s : Status) → StatusFits size s → IsPlainStatus size s (status_bytes size s)
 plain size s fits = record { front = header_of size s.ack (e1_before s.nacks); rest = nacks_of size s.nacks; both = refl; first = header_is size s.ack _ fits.0 (e1_below s.nacks); second = nacks_are size s.nacks fits.1 }
 
 -- a header with reserved bits 0 is a header

@@ -8,8 +8,8 @@ use Rattle.rlc_status.specs.declared.status.Nack.{Nack}
 use Rattle.rlc_status.specs.declared.status.Status.{Status}
 use Rattle.rlc_status.specs.declared.fault.StatusFault.{StatusFault}
 use Rattle.rlc_status.specs.declared.fault.StatusFault.TheVariants.{Short, IsData, ReservedType, ZeroRange, BackPart, Trailing}
-use Rattle.rlc_status.specs.Format.{bit, bits, Then, IsFree, IsStatusType, IsHeader, IsHeaderFault, IsNackHead, IsPart, IsRange, SpellsNack, IsNack, IsStatus, IsWrong, nack_len_at, IsNackFault, IsFault}
-use Rattle.rlc_status.specs.Format.IsFault.{of_header}
+use Rattle.rlc_status.specs.Format.{bit, bits, Then, IsFree, IsStatusType, IsHeader, IsHeaderFault, IsNackHead, IsPart, IsRange, SpellsNack, IsNack, IsStatus, IsWrongNack, nack_len_at, IsNackFault, IsStatusFault}
+use Rattle.rlc_status.specs.Format.IsStatusFault.{of_header}
 use Rattle.rlc_status.proofs.Faults.{len_at, part_len}
 use Rattle.rlc_status.proofs.Reading.{HasRead, begins, goes_on, ends, trails, fails}
 
@@ -101,7 +101,7 @@ zero_or (Some zero) = inl refl
 zero_or (Some (suc k)) = inr (λ e. absurd (omega (arith, ap (λ (r : Option ℕ). unwrap_or r 0) e)))
 
 -- where it isn't, the element is right or its part runs backwards
-order_or : (nack : Nack) → nack.range ≢ Some 0 → (part : Option (ℕ × ℕ)) → nack.part ≡ part → IsRight nack ⊎ IsWrong nack BackPart
+order_or : (nack : Nack) → nack.range ≢ Some 0 → (part : Option (ℕ × ℕ)) → nack.part ≡ part → IsRight nack ⊎ IsWrongNack nack BackPart
 order_or nack some None p = inl (some, λ x y e one. absurd cc)
 order_or nack some (Some q) p =
     elim (cases_lt q.1 q.0) [
@@ -140,7 +140,7 @@ shorter size nack e1 octets t =
 
 -- a STATUS or a fault
 abbrev Reads : SnSize → List ℕ → Type 0
-Reads size octets = ((s : Status) × IsStatus size s octets) ⊎ ((fault : StatusFault) × IsFault size octets fault)
+Reads size octets = ((s : Status) × IsStatus size s octets) ⊎ ((fault : StatusFault) × IsStatusFault size octets fault)
 
 -- what is left to read is read to its end, or to the first fault
 rest_or : (fuel : ℕ) (size : SnSize) (ack : ℕ) (nacks : List Nack) (more : Bool) (rest octets : List ℕ) → length rest ≤ fuel → HasRead size ack nacks more rest octets → Reads size octets

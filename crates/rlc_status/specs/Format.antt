@@ -121,18 +121,18 @@ nack_head_of S12 sn e1 e2 e3 = (sn / 16) ∷ (sn % 16 * 16 + e1 * 8 + e2 * 4 + e
 nack_head_of S18 sn e1 e2 e3 = (sn / 1024) ∷ (sn / 4 % 256) ∷ (sn % 4 * 64 + e1 * 32 + e2 * 16 + e3 * 8) ∷ []
 
 -- two octets for SOstart and two for SOend
-abbrev pub part_of : Option (ℕ × ℕ) → List ℕ
-part_of None = []
-part_of (Some part) = (part.0 / 256) ∷ (part.0 % 256) ∷ (part.1 / 256) ∷ (part.1 % 256) ∷ []
+abbrev pub octets_of_part : Option (ℕ × ℕ) → List ℕ
+octets_of_part None = []
+octets_of_part (Some part) = (part.0 / 256) ∷ (part.0 % 256) ∷ (part.1 / 256) ∷ (part.1 % 256) ∷ []
 
 -- one octet for the range
-abbrev pub range_of : Option ℕ → List ℕ
-range_of None = []
-range_of (Some range) = range ∷ []
+abbrev pub octets_of_range : Option ℕ → List ℕ
+octets_of_range None = []
+octets_of_range (Some range) = range ∷ []
 
 -- an element with this E1, written so
 abbrev pub nack_of : SnSize → Nack → ℕ → List ℕ
-nack_of size nack e1 = nack_head_of size nack.sn e1 (bit (is_some nack.part)) (bit (is_some nack.range)) ++ part_of nack.part ++ range_of nack.range
+nack_of size nack e1 = nack_head_of size nack.sn e1 (bit (is_some nack.part)) (bit (is_some nack.range)) ++ octets_of_part nack.part ++ octets_of_range nack.range
 
 -- elements, each with an E1 that says whether another one follows
 abbrev pub nacks_of : SnSize → List Nack → List ℕ
@@ -140,8 +140,8 @@ nacks_of size [] = []
 nacks_of size (nack ∷ nacks) = nack_of size nack (e1_before nacks) ++ nacks_of size nacks
 
 -- the one spelling of a STATUS with reserved bits 0
-abbrev pub bytes_of : SnSize → Status → List ℕ
-bytes_of size status = header_of size status.ack (e1_before status.nacks) ++ nacks_of size status.nacks
+abbrev pub status_bytes : SnSize → Status → List ℕ
+status_bytes size status = header_of size status.ack (e1_before status.nacks) ++ nacks_of size status.nacks
 
 -- how many octets an element has before its part and its range
 abbrev pub nack_head_len : SnSize → ℕ
@@ -176,15 +176,15 @@ nack_len_at S18 (a ∷ b ∷ c ∷ octets) = 3 + 4 * bits c 4 4 + bits c 3 3
 nack_len_at S18 octets = 3
 
 -- what is wrong with an element: its range is 0, or its part runs backwards in one SDU
-abbrev pub IsWrong : Nack → StatusFault → Type 0
-IsWrong nack ZeroRange = nack.range ≡ Some 0
-IsWrong nack BackPart = (start : ℕ) × (end : ℕ) × (nack.part ≡ Some (start, end)) × (unwrap_or nack.range 1 ≡ 1) × (end < start)
-IsWrong nack fault = ⊥
+abbrev pub IsWrongNack : Nack → StatusFault → Type 0
+IsWrongNack nack ZeroRange = nack.range ≡ Some 0
+IsWrongNack nack BackPart = (start : ℕ) × (end : ℕ) × (nack.part ≡ Some (start, end)) × (unwrap_or nack.range 1 ≡ 1) × (end < start)
+IsWrongNack nack fault = ⊥
 
 -- what is wrong with the element at the front: it isn't whole, or is whole and wrong
 abbrev pub IsNackFault : SnSize → List ℕ → StatusFault → Type 0
 IsNackFault size octets Short = length octets < nack_len_at size octets
-IsNackFault size octets fault = (nack : Nack) × (e1 : ℕ) × IsWrong nack fault × Then (SpellsNack IsFree size nack e1) (λ rest. Unit {0}) octets
+IsNackFault size octets fault = (nack : Nack) × (e1 : ℕ) × IsWrongNack nack fault × Then (SpellsNack IsFree size nack e1) (λ rest. Unit {0}) octets
 
 -- the same of the element behind these, each of which says that another one follows
 abbrev pub IsFaultBehind : SnSize → List Nack → StatusFault → List ℕ → Type 0
@@ -192,10 +192,14 @@ IsFaultBehind size [] fault octets = IsNackFault size octets fault
 IsFaultBehind size (nack ∷ nacks) fault octets = Then (IsNack IsFree size nack 1) (λ rest. IsFaultBehind size nacks fault rest) octets
 
 -- the first fault of the octets: one of the header; or of an element behind right ones; or octets behind a STATUS
-pub data IsFault (size : SnSize) (octets : List ℕ) : StatusFault → Type 0 where
-  of_header : {fault : StatusFault} → IsHeaderFault octets fault → IsFault size octets fault
-  of_nack : {fault : StatusFault} (ack : ℕ) (nacks : List Nack) → Then (IsHeader IsFree size ack 1) (λ rest. IsFaultBehind size nacks fault rest) octets → IsFault size octets fault
-  of_end : (status : Status) → Then (IsStatus size status) (λ rest. 0 < length rest) octets → IsFault size octets Trailing
+pub data IsStatusFault (size : SnSize) (octets : List ℕ) : StatusFault → Type 0 where
+  of_header : {fault : StatusFault} → IsHeaderFault octets fault → IsStatusFault size octets fault
+  of_nack : {fault : StatusFault} (ack : ℕ) (nacks : List Nack) → Then (IsHeader IsFree size ack 1) (λ rest. IsFaultBehind size nacks fault rest) octets → IsStatusFault size octets fault
+  of_end : (status : Status) → Then (IsStatus size status) (λ rest. 0 < length rest) octets → IsStatusFault size octets Trailing
+
+-- an element stands behind the header, whole and right
+abbrev pub HasElement : SnSize → List ℕ → Type 0
+HasElement size octets = (ack : ℕ) × Then (IsHeader IsFree size ack 1) (λ behind. (nack : Nack) × (e1 : ℕ) × Then (IsNack IsFree size nack e1) (λ rest. Unit {0}) behind) octets
 
 -- this answer, or want of memory
 abbrev pub IsUnlessMemory : Result Status StatusFault → Result Status StatusFault → Type 0

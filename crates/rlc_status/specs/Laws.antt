@@ -1,15 +1,12 @@
 -- What holds of the format of STATUS PDUs, whoever reads or writes them.
-use Rattle.std.specs.Prelude.{◌≡◌, ◌⊎◌, ◌<◌, ℕ, List, [], ◌∷◌, All}
+use Rattle.std.specs.Prelude.{◌≡◌, ◌⊎◌, ℕ, List, [], ◌∷◌}
+use Rattle.link_base.specs.Octets.{AreOctets}
 use Rattle.link_base.specs.declared.names.SnSize.{SnSize}
 use Rattle.link_base.specs.declared.names.SnSize.TheVariants.{S12}
 use Rattle.rlc_status.specs.declared.status.Status.{Status}
 use Rattle.rlc_status.specs.declared.fault.StatusFault.{StatusFault}
-use Rattle.rlc_status.specs.Format.{StatusFits, IsStatus, IsPlainStatus, bytes_of, IsFault}
+use Rattle.rlc_status.specs.Format.{StatusFits, IsStatus, IsPlainStatus, status_bytes, IsStatusFault}
 use Rattle.rlc_status.specs.Says.{SaysReceived, SaysMissing}
-
--- each is a byte
-abbrev pub AreOctets : List ℕ → Type 0
-AreOctets octets = All (λ octet. octet < 256) octets
 
 -- octets spell at most one STATUS
 abbrev pub OneReading : Type 0
@@ -17,19 +14,19 @@ OneReading = (size : SnSize) (s t : Status) (octets : List ℕ) → IsStatus siz
 
 -- octets that spell a STATUS have no fault
 abbrev pub NoFault : Type 0
-NoFault = (size : SnSize) (s : Status) (octets : List ℕ) (fault : StatusFault) → IsStatus size s octets → IsFault size octets fault → ⊥
+NoFault = (size : SnSize) (s : Status) (octets : List ℕ) (fault : StatusFault) → IsStatus size s octets → IsStatusFault size octets fault → ⊥
 
 -- octets spell a STATUS or have a fault
 abbrev pub ReadOrRefused : Type 0
-ReadOrRefused = (size : SnSize) (octets : List ℕ) → ((s : Status) × IsStatus size s octets) ⊎ ((fault : StatusFault) × IsFault size octets fault)
+ReadOrRefused = (size : SnSize) (octets : List ℕ) → ((s : Status) × IsStatus size s octets) ⊎ ((fault : StatusFault) × IsStatusFault size octets fault)
 
 -- octets have at most one fault
 abbrev pub OneFault : Type 0
-OneFault = (size : SnSize) (octets : List ℕ) (f g : StatusFault) → IsFault size octets f → IsFault size octets g → f ≡ g
+OneFault = (size : SnSize) (octets : List ℕ) (f g : StatusFault) → IsStatusFault size octets f → IsStatusFault size octets g → f ≡ g
 
 -- what fits has the one spelling with reserved bits 0
 abbrev pub OneSpelling : Type 0
-OneSpelling = (size : SnSize) (s : Status) → StatusFits size s → IsPlainStatus size s (bytes_of size s) × IsStatus size s (bytes_of size s) × ((octets : List ℕ) → AreOctets octets → IsPlainStatus size s octets → octets ≡ bytes_of size s)
+OneSpelling = (size : SnSize) (s : Status) → StatusFits size s → IsPlainStatus size s (status_bytes size s) × IsStatus size s (status_bytes size s) × ((octets : List ℕ) → AreOctets octets → IsPlainStatus size s octets → octets ≡ status_bytes size s)
 
 -- what is spelt fits
 abbrev pub SpeltFits : Type 0

@@ -1,8 +1,8 @@
 // The fields of a STATUS PDU.
-ghost use Rattle.std.specs.Prelude.{◌≡◌, ◌≢◌, ℕ, Ok, Err, ◌+◌, ◌*◌, ◌/◌, ◌%◌, ◌^◌, ◌<◌, ◌≤◌, ◌⊎◌, length, take, drop, is_some, unwrap_or, OnOk, IfOk, IfErr, IfSome, IfNone};
+ghost use Rattle.std.specs.Prelude.{◌≡◌, ◌≢◌, ℕ, Ok, Err, ◌+◌, ◌*◌, ◌/◌, ◌%◌, ◌^◌, ◌<◌, ◌≤◌, ◌⊎◌, length, take, drop, is_some, unwrap_or, OnOk, IfOk, IfErr, IsErrOf, IfSome, IfNone};
 ghost use Rattle.rlc_status.specs.declared.fault.StatusFault.{StatusFault};
 ghost use Rattle.rlc_status.specs.declared.status.Status.{Status};
-ghost use Rattle.rlc_status.specs.Format.{bit, nack_head_len, nack_len_at, IsFree, Then, IsHeader, IsHeaderFault, IsNackHead, IsPart, IsRange, SpellsNack, IsWrong, IsNack, IsNackFault, StatusFits, IsStatus, IsFault, IsUnlessMemory};
+ghost use Rattle.rlc_status.specs.Format.{bit, nack_head_len, nack_len_at, IsFree, Then, IsHeader, IsHeaderFault, IsNackHead, IsPart, IsRange, SpellsNack, IsWrongNack, IsNack, IsNackFault, StatusFits, IsStatus, IsStatusFault, HasElement, IsUnlessMemory};
 
 use crate::{Nack, NackList, Status, StatusFault};
 use link_base::SnSize;
@@ -26,7 +26,9 @@ struct Head {
 }
 
 fn read_head(size: SnSize, bytes: &[u8]) -> Option<(Head, &[u8])>
-    ensures spelt { IfSome result (λ r. IsNackHead IsFree size r.0.sn (bit r.0.more) (bit r.0.has_part) (bit r.0.has_range) (take (nack_head_len size) bytes.now)) }
+    ensures spelt { IfSome result
+        (λ r. IsNackHead IsFree size r.0.sn (bit r.0.more) (bit r.0.has_part) (bit r.0.has_range)
+        (take (nack_head_len size) bytes.now)) }
     ensures rest { IfSome result (λ r. r.1.now ≡ drop (nack_head_len size) bytes.now) }
     ensures none { IfNone result (length bytes.now < nack_head_len size) }
 {
@@ -85,7 +87,8 @@ fn read_range(has_range: bool, bytes: &[u8]) -> Option<(Option<u8>, &[u8])>
 
 /// The fields of the element at the front with its E1, and the octets behind it. None where it isn't whole.
 fn split_nack(size: SnSize, bytes: &[u8]) -> Option<(Nack, bool, &[u8])>
-    ensures some { IfSome result (λ r. Then (SpellsNack IsFree size r.0 (bit r.1)) (λ rest. rest ≡ r.2.now) bytes.now) }
+    ensures some { IfSome result
+        (λ r. Then (SpellsNack IsFree size r.0 (bit r.1)) (λ rest. rest ≡ r.2.now) bytes.now) }
     ensures none { IfNone result (length bytes.now < nack_len_at size bytes.now) }
 {
     let (head, rest) = read_head(size, bytes)?;
@@ -102,8 +105,9 @@ fn split_nack(size: SnSize, bytes: &[u8]) -> Option<(Nack, bool, &[u8])>
 /// Refuses a range of 0, and a part of one SDU that runs backwards.
 fn check_nack(nack: &Nack) -> Result<(), StatusFault>
     ensures range { OnOk result (nack.now.range ≢ Some 0) }
-    ensures order { OnOk result ((x y : ℕ) → nack.now.part ≡ Some (x, y) → unwrap_or nack.now.range 1 ≡ 1 → x ≤ y) }
-    ensures fault { IfErr result (IsWrong nack.now) }
+    ensures order { OnOk result
+        ((x y : ℕ) → nack.now.part ≡ Some (x, y) → unwrap_or nack.now.range 1 ≡ 1 → x ≤ y) }
+    ensures fault { IfErr result (IsWrongNack nack.now) }
 {
     let names_one = nack.range.unwrap_or(1) == 1;
     match (nack.range, nack.part) {
@@ -115,7 +119,8 @@ fn check_nack(nack: &Nack) -> Result<(), StatusFault>
 
 /// The element at the front with its E1, and the octets behind it.
 fn read_nack(size: SnSize, bytes: &[u8]) -> Result<(Nack, bool, &[u8]), StatusFault>
-    ensures found { IfOk result (λ r. Then (IsNack IsFree size r.0 (bit r.1)) (λ rest. rest ≡ r.2.now) bytes.now) }
+    ensures found { IfOk result
+        (λ r. Then (IsNack IsFree size r.0 (bit r.1)) (λ rest. rest ≡ r.2.now) bytes.now) }
     ensures fault { IfErr result (IsNackFault size bytes.now) }
 {
     let Some((nack, more, rest)) = split_nack(size, bytes) else {
@@ -148,7 +153,9 @@ fn read_header(size: SnSize, bytes: &[u8]) -> Result<(u32, bool, &[u8]), StatusF
 
 fn read_status(alloc: Global, size: SnSize, bytes: &[u8]) -> Result<Status, StatusFault>
     ensures found { IfOk result (λ status. IsStatus size status bytes.now) }
-    ensures fault { IfErr result (λ fault. fault ≢ StatusFault.Memory → IsFault size bytes.now fault) }
+    ensures fault { IfErr result
+        (λ fault. fault ≢ StatusFault.Memory → IsStatusFault size bytes.now fault) }
+    ensures memory { IsErrOf result StatusFault.Memory → HasElement size bytes.now }
 {
     let (ack, mut more, mut rest) = read_header(size, bytes)?;
     let mut nacks = NackList::new(alloc);
@@ -166,16 +173,23 @@ fn read_status(alloc: Global, size: SnSize, bytes: &[u8]) -> Result<Status, Stat
 
 /// The fields of a STATUS PDU (TS 38.322 clause 6.2.2.5). Reserved bits are ignored.
 ///
-/// An error is the first fault in the order in which the fields stand, or want of memory.
+/// An error is the first fault in the order in which the fields stand; or want of memory, which comes only where an element
+/// stands behind the header.
 pub fn decode_status(alloc: Global, size: SnSize, bytes: &[u8]) -> Result<Status, StatusFault>
     // What is read is spelt so, and what is spelt so is read, unless memory is refused.
     ensures found { IfOk result (λ status. IsStatus size status bytes.now) }
-    ensures read { (status : Status) → IsStatus size status bytes.now → IsUnlessMemory result (Ok status) }
+    ensures read { (status : Status) → IsStatus size status bytes.now
+        → IsUnlessMemory result (Ok status) }
     ensures fits { IfOk result (StatusFits size) }
 
     // A fault is the first one, and the first one is found, unless memory is refused.
-    ensures fault { IfErr result (λ fault. fault ≢ StatusFault.Memory → IsFault size bytes.now fault) }
-    ensures refused { (fault : StatusFault) → IsFault size bytes.now fault → IsUnlessMemory result (Err fault) }
+    ensures fault { IfErr result
+        (λ fault. fault ≢ StatusFault.Memory → IsStatusFault size bytes.now fault) }
+    ensures refused { (fault : StatusFault) → IsStatusFault size bytes.now fault
+        → IsUnlessMemory result (Err fault) }
+
+    // Memory is taken for elements alone.
+    ensures memory { IsErrOf result StatusFault.Memory → HasElement size bytes.now }
 {
     read_status(alloc, size, bytes)
 }

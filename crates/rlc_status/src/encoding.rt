@@ -1,7 +1,7 @@
 // The octets of a STATUS PDU.
 ghost use Rattle.std.specs.Prelude.{◌≡◌, ◌+◌, ◌*◌, ◌++◌, ◌<◌, OnOk, IfOk, is_some};
 ghost use Rattle.link_base.specs.SequenceNumbers.{modulus};
-ghost use Rattle.rlc_status.specs.Format.{bit, header_of, nack_head_of, nack_of, bytes_of, NackFits, StatusFits, IsStatus, IsPlainStatus};
+ghost use Rattle.rlc_status.specs.Format.{bit, header_of, nack_head_of, nack_of, status_bytes, NackFits, StatusFits, IsStatus, IsPlainStatus};
 
 use crate::{Nack, Status};
 use link_base::{Bytes, Memory, SnSize};
@@ -28,7 +28,8 @@ fn push_header(bytes: &mut Bytes, size: SnSize, ack: u32, more: bool) -> Result<
 
 /// E1, E2 and E3 of an element.
 fn extensions(nack: &Nack, more: bool) -> u8
-    ensures { result ≡ bit more * 4 + bit (is_some nack.now.part) * 2 + bit (is_some nack.now.range) }
+    ensures { result ≡ bit more * 4 + bit (is_some nack.now.part) * 2 + bit
+        (is_some nack.now.range) }
 {
     u8::from(more) * 4 + u8::from(nack.part.is_some()) * 2 + u8::from(nack.range.is_some())
 }
@@ -36,7 +37,10 @@ fn extensions(nack: &Nack, more: bool) -> u8
 /// The octets of an element before its part and its range.
 fn push_head(bytes: &mut Bytes, size: SnSize, nack: &Nack, more: bool) -> Result<(), Memory>
     requires { nack.now.sn < modulus size }
-    ensures { OnOk result (bytes.new ≡ bytes.old ++ nack_head_of size nack.now.sn (bit more) (bit (is_some nack.now.part)) (bit (is_some nack.now.range))) }
+    ensures { OnOk result
+        (bytes.new ≡ bytes.old
+        ++ nack_head_of size nack.now.sn (bit more) (bit (is_some nack.now.part))
+        (bit (is_some nack.now.range))) }
 {
     let sn = nack.sn;
     let extensions = extensions(nack, more);
@@ -72,7 +76,7 @@ fn push_nack(bytes: &mut Bytes, size: SnSize, nack: &Nack, more: bool) -> Result
 /// The octets of a STATUS PDU, with reserved bits 0 (TS 38.322 clause 6.2.2.5).
 pub fn encode_status(alloc: Global, size: SnSize, status: &Status) -> Result<Bytes, Memory>
     requires { StatusFits size status.now }
-    ensures bytes { IfOk result (λ bytes. bytes ≡ bytes_of size status.now) }
+    ensures bytes { IfOk result (λ bytes. bytes ≡ status_bytes size status.now) }
     ensures spelt { IfOk result (IsStatus size status.now) }
     ensures plain { IfOk result (IsPlainStatus size status.now) }
 {

@@ -20,7 +20,7 @@ fn nack_len(size: SnSize, nack: &Nack) -> u64
 /// range (TS 38.322 clause 6.2.2.5).
 pub fn status_len(size: SnSize, status: &Status) -> u64
     ensures sum { result ≡ format.status_len size status.now }
-    ensures octets { result ≡ length (format.bytes_of size status.now) }
+    ensures octets { result ≡ length (format.status_bytes size status.now) }
 {
     let nacks = status.nacks.as_slice();
     // In memory an element takes 12 bytes, and on the air 8 octets at most, so the sum fits.

@@ -14,7 +14,7 @@ use Rattle.bearer_map.specs.Lines.{is_size}
 use Rattle.script_text.specs.Words.{IsNumber}
 use Rattle.script_text.specs.Fields.{IsSpelt}
 use Rattle.script_text.specs.Lines.{Spells, value_of}
-use Rattle.script_text.specs.Stages.{table_line, bits}
+use Rattle.script_text.specs.Stages.{table_line, sn_bits}
 use Rattle.script_text.specs.declared.line.Line.{Line}
 use Rattle.script_text.specs.declared.line.Line.TheVariants.{Set, Remote, Bearer, Uu, Pc5, Map, Start, Path, Go}
 
@@ -28,7 +28,7 @@ both false b x y = x
 within : (low high n : ℕ) (w : List ℕ) → IsNumber low high w n → is_within low high n ≡ true
 within low high n w x = both _ _ (le-leb low n x.1) (le-leb n high x.2)
 
-sized : (s : SnSize) → is_size (bits s) ≡ true
+sized : (s : SnSize) → is_size (sn_bits s) ≡ true
 sized S12 = refl
 sized S18 = refl
 

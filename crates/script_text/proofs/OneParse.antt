@@ -8,17 +8,17 @@ use Rattle.script_text.specs.declared.stage.ScriptStage.{ScriptStage}
 use Rattle.bearer_map.specs.declared.rows.TableFault.{TableFault}
 use Rattle.script_text.specs.Words.{words_of}
 use Rattle.script_text.specs.Stages.{after}
-use Rattle.script_text.specs.Grammar.{IsBad, HoldsNone, IsFirst, Parses, reasons}
+use Rattle.script_text.specs.Grammar.{IsBad, NoneHolds, IsFirstReason, Parses, reasons}
 use Rattle.script_text.proofs.OneLine.{one_line}
 
-one_first : (Holds : Reason → Type 0) (rs : List Reason) (a b : Reason) → IsFirst Holds rs a → IsFirst Holds rs b → a ≡ b
+pub one_first : (Holds : Reason → Type 0) (rs : List Reason) (a b : Reason) → IsFirstReason Holds rs a → IsFirstReason Holds rs b → a ≡ b
 one_first Holds [] a b x y = absurd x
 one_first Holds (r ∷ rs) a b (inl x) (inl y) = x.0 ∙ sym y.0
 one_first Holds (r ∷ rs) a b (inl x) (inr y) = absurd (y.0 x.1)
 one_first Holds (r ∷ rs) a b (inr x) (inl y) = absurd (x.0 y.1)
 one_first Holds (r ∷ rs) a b (inr x) (inr y) = one_first Holds rs a b x.1 y.1
 
-none_first : (Holds : Reason → Type 0) (rs : List Reason) (a : Reason) → HoldsNone Holds rs → IsFirst Holds rs a → ⊥
+pub none_first : (Holds : Reason → Type 0) (rs : List Reason) (a : Reason) → NoneHolds Holds rs → IsFirstReason Holds rs a → ⊥
 none_first Holds [] a none x = x
 none_first Holds (r ∷ rs) a none (inl x) = none.0 x.1
 none_first Holds (r ∷ rs) a none (inr x) = none_first Holds rs a none.1 x.1

@@ -12,8 +12,8 @@ use Rattle.script_text.specs.declared.stage.ScriptStage.{ScriptStage}
 use Rattle.script_text.specs.Words.{words_of, word_at}
 use Rattle.script_text.specs.Lines.{is_skipped, Spells, IsLineOf, IsNoLineOf}
 use Rattle.script_text.specs.Forms.{is_formed, is_named}
-use Rattle.script_text.specs.Stages.{after, entered, kept, tables_after, table_line, Enters}
-use Rattle.script_text.specs.Grammar.{IsRefused, IsBad, reasons, HoldsNone, IsFirst, Parses, IsBegun, IsRead, fault_of, is_printable, lacks_version}
+use Rattle.script_text.specs.Stages.{after, entered, kept, tables_after, table_line, EntersStage}
+use Rattle.script_text.specs.Grammar.{IsRefused, IsBad, reasons, NoneHolds, IsFirstReason, Parses, IsBegun, IsRead, fault_of, is_printable, lacks_version}
 use Rattle.script_text.proofs.OneLine.{one_line}
 use Rattle.script_text.proofs.NotRange.{not_range}
 use Rattle.script_text.proofs.HasForm.{formed}
@@ -41,11 +41,11 @@ module _ (stage : ScriptStage) (text : List ℕ) (short : length text ≤ 65536)
   not_long : IsBad stage text Line → ⊥
   not_long long = omega (arith, short, long)
 
-  first : (reason : Reason) → IsFirst (IsBad stage text) (Line ∷ Text ∷ Version ∷ Word ∷ Form ∷ Range ∷ Twice ∷ Unknown ∷ Limit ∷ Map ∷ []) reason → IsFirst (IsBad stage text) (reasons text) reason
-  first reason x = subst (λ (b : Bool). IsFirst (IsBad stage text) (cond b (Line ∷ []) (Line ∷ Text ∷ Version ∷ Word ∷ Form ∷ Range ∷ Twice ∷ Unknown ∷ Limit ∷ Map ∷ [])) reason) (sym read) x
+  first : (reason : Reason) → IsFirstReason (IsBad stage text) (Line ∷ Text ∷ Version ∷ Word ∷ Form ∷ Range ∷ Twice ∷ Unknown ∷ Limit ∷ Map ∷ []) reason → IsFirstReason (IsBad stage text) (reasons text) reason
+  first reason x = subst (λ (b : Bool). IsFirstReason (IsBad stage text) (cond b (Line ∷ []) (Line ∷ Text ∷ Version ∷ Word ∷ Form ∷ Range ∷ Twice ∷ Unknown ∷ Limit ∷ Map ∷ [])) reason) (sym read) x
 
   -- a reason that the text itself gives
-  pub misread : (reason : Reason) → IsRead stage.part text (Err (Bad reason)) → IsFirst (IsBad stage text) (reasons text) reason
+  pub misread : (reason : Reason) → IsRead stage.part text (Err (Bad reason)) → IsFirstReason (IsBad stage text) (reasons text) reason
   misread Text x = first Text (inr (not_long, inl (refl, x)))
   misread Version x = first Version (inr (not_long, inr (opposite x.0, inl (refl, x.1))))
   misread Word x = first Word (inr (not_long, inr (opposite x.0, inr (λ v. opposite v x.1, inl (refl, x.2)))))
@@ -67,14 +67,14 @@ module _ (stage : ScriptStage) (text : List ℕ) (short : length text ≤ 65536)
     not_refused : (fault other : TableFault) → after stage line ≡ Err other → ((let r : Result ScriptStage TableFault = Err other in r) ≡ Err fault → ⊥) → IsRefused stage text fault → ⊥
     not_refused fault other e apart x = apart (sym e ∙ same_fault fault x)
 
-    before_tables : (reason : Reason) → IsFirst (IsBad stage text) (Twice ∷ Unknown ∷ Limit ∷ Map ∷ []) reason → IsFirst (IsBad stage text) (reasons text) reason
+    before_tables : (reason : Reason) → IsFirstReason (IsBad stage text) (Twice ∷ Unknown ∷ Limit ∷ Map ∷ []) reason → IsFirstReason (IsBad stage text) (reasons text) reason
     before_tables reason x = first reason (inr (not_long, inr (opposite begun.printable, inr (λ v. opposite v begun.opened, inr (opposite begun.known, inr (has_form, inr (is_some_line, x)))))))
 
     refused : (fault : TableFault) → after stage line ≡ Err fault → IsRefused stage text fault
     refused fault e = record { line = line; is_line = is; refused = e }
 
     -- a reason that the tables give
-    pub turned_down : (new : ScriptStage) (fault : TableFault) → Enters (Err fault) stage new (after stage line) → Parses stage text (Err (fault_of fault)) new
+    pub turned_down : (new : ScriptStage) (fault : TableFault) → EntersStage (Err fault) stage new (after stage line) → Parses stage text (Err (fault_of fault)) new
     turned_down new faults.Range x = absurd (after_range stage (words_of text) line is.spelt x.0)
     turned_down new faults.Twice x = (before_tables Twice (inl (refl, refused faults.Twice x.0)), x.1)
     turned_down new faults.Unknown x = (before_tables Unknown (inr (not_refused faults.Twice _ x.0 (λ e. absurd cc), inl (refl, refused faults.Unknown x.0))), x.1)
@@ -91,7 +91,7 @@ module _ (stage : ScriptStage) (text : List ℕ) (short : length text ≤ 65536)
     pub taken : (new : ScriptStage) → after stage line ≡ Ok new → Parses stage text (Ok (Some line)) new
     taken new e = (
       read,
-      subst (λ (b : Bool). HoldsNone (IsBad stage text) (cond b (Line ∷ []) (Line ∷ Text ∷ Version ∷ Word ∷ Form ∷ Range ∷ Twice ∷ Unknown ∷ Limit ∷ Map ∷ []))) (sym read)
+      subst (λ (b : Bool). NoneHolds (IsBad stage text) (cond b (Line ∷ []) (Line ∷ Text ∷ Version ∷ Word ∷ Form ∷ Range ∷ Twice ∷ Unknown ∷ Limit ∷ Map ∷ []))) (sym read)
           (not_long, (opposite begun.printable, (λ v. opposite v begun.opened, (opposite begun.known, (has_form, (is_some_line, (not_taken new faults.Twice e, (not_taken new faults.Unknown e, (not_taken new faults.Limit e, (not_taken new faults.NoMap e, tt)))))))))),
       is,
       e,

@@ -13,7 +13,7 @@ use Rattle.script_text.specs.Words.{words_of, word_at}
 use Rattle.script_text.specs.Fields.{field_text, joined}
 use Rattle.script_text.specs.Lines.{is_skipped, Spells, name, fields, part_of, line_text}
 use Rattle.script_text.specs.Forms.{is_named}
-use Rattle.script_text.specs.Grammar.{IsBad, HoldsNone, Parses, IsBegun, lacks_version}
+use Rattle.script_text.specs.Grammar.{IsBad, NoneHolds, Parses, IsBegun, lacks_version}
 use Rattle.script_text.proofs.Bounds.{bounded}
 use Rattle.script_text.proofs.Joined.{is_plain, words_of_joined, printable_joined, length-text, length-joined, total, total-cons}
 use Rattle.script_text.proofs.OwnTexts.{relisted, plain_texts, as_long}
@@ -63,8 +63,8 @@ not_false false f = absurd (f refl)
 
 pub reads_back : (stage new : ScriptStage) (text : List ℕ) (line : ALine) → Parses stage text (Ok (Some line)) new → Parses stage (line_text line) (Ok (Some line)) new
 reads_back stage new text line p =
-    let none : HoldsNone (IsBad stage text) (Line ∷ Text ∷ Version ∷ Word ∷ Form ∷ Range ∷ Twice ∷ Unknown ∷ Limit ∷ Map ∷ []) =
-    subst (λ (b : Bool). HoldsNone (IsBad stage text) (cond b (Line ∷ []) (Line ∷ Text ∷ Version ∷ Word ∷ Form ∷ Range ∷ Twice ∷ Unknown ∷ Limit ∷ Map ∷ []))) p.0 p.1 in
+    let none : NoneHolds (IsBad stage text) (Line ∷ Text ∷ Version ∷ Word ∷ Form ∷ Range ∷ Twice ∷ Unknown ∷ Limit ∷ Map ∷ []) =
+    subst (λ (b : Bool). NoneHolds (IsBad stage text) (cond b (Line ∷ []) (Line ∷ Text ∷ Version ∷ Word ∷ Form ∷ Range ∷ Twice ∷ Unknown ∷ Limit ∷ Map ∷ []))) p.0 p.1 in
     let spelt = p.2.spelt in
     let again = text_spells (words_of text) line spelt in
     let bound : length text < 65537 = lt_of_not-le none.0 in

@@ -78,6 +78,7 @@ a_port = UuPort a_chan
 abbrev pub pdu_examples : List Line
 pdu_examples = Submit a_key [] ∷ Grant a_port Ul 1 ∷ Deliver 1 ∷ Repeat 1 ∷ Lose 1 ∷ Stage 1 ∷ Expire a_port Low Poll ∷ []
 
+-- a line of each form about what nodes do with SDUs, paths and the end
 abbrev pub work_examples : List Line
 work_examples =
     Push a_port ∷ Pull a_port ∷ Burst ∷ Report a_key ∷ Plan a_remote Direct ∷ Plan a_remote (Relay an_id) ∷ Apply a_remote Gnb ∷ Drain ∷ End ∷ []

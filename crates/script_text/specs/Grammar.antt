@@ -4,6 +4,7 @@ use Rattle.std.specs.List.{list_all}
 use Rattle.std.specs.Str.{bytes_eq}
 use Rattle.bearer_map.specs.declared.rows.TableFault.{TableFault}
 use Rattle.bearer_map.specs.declared.rows.TableFault.TheVariants as faults
+use Rattle.script_text.specs.declared.limits.TheConstants.{LONGEST_LINE}
 use Rattle.script_text.specs.declared.line.Line.{Line as ALine}
 use Rattle.script_text.specs.declared.reason.Reason.{Reason}
 use Rattle.script_text.specs.declared.reason.Reason.TheVariants.{Line, Text, Version, Word, Form, Range, Twice, Unknown, Limit, Map, End}
@@ -34,7 +35,7 @@ pub record IsRefused (stage : ScriptStage) (text : List ℕ) (fault : TableFault
 
 -- the text is bad for this reason
 abbrev pub IsBad : ScriptStage → List ℕ → Reason → Type 0
-IsBad stage text Line = 65536 < length text
+IsBad stage text Line = LONGEST_LINE < length text
 IsBad stage text Text = is_printable text ≡ false
 IsBad stage text Version = lacks_version stage.part text ≡ true
 IsBad stage text Word = is_named stage.part (word_at 0 (words_of text)) ≡ false
@@ -51,21 +52,21 @@ abbrev pub reasons : List ℕ → List Reason
 reasons text = if is_skipped text then Line ∷ [] else Line ∷ Text ∷ Version ∷ Word ∷ Form ∷ Range ∷ Twice ∷ Unknown ∷ Limit ∷ Map ∷ []
 
 -- of these reasons none holds
-abbrev pub HoldsNone : (Reason → Type 0) → List Reason → Type 0
-HoldsNone Holds [] = Unit {0}
-HoldsNone Holds (r ∷ rs) = (Holds r → ⊥) × HoldsNone Holds rs
+abbrev pub NoneHolds : (Reason → Type 0) → List Reason → Type 0
+NoneHolds Holds [] = Unit {0}
+NoneHolds Holds (r ∷ rs) = (Holds r → ⊥) × NoneHolds Holds rs
 
 -- of these reasons this is the first that holds
-abbrev pub IsFirst : (Reason → Type 0) → List Reason → Reason → Type 0
-IsFirst Holds [] reason = ⊥
-IsFirst Holds (r ∷ rs) reason = ((reason ≡ r) × Holds r) ⊎ ((Holds r → ⊥) × IsFirst Holds rs reason)
+abbrev pub IsFirstReason : (Reason → Type 0) → List Reason → Reason → Type 0
+IsFirstReason Holds [] reason = ⊥
+IsFirstReason Holds (r ∷ rs) reason = ((reason ≡ r) × Holds r) ⊎ ((Holds r → ⊥) × IsFirstReason Holds rs reason)
 
 -- what reading a line answers and leaves: none where it is skipped, else the line that it spells at this stage, or the
 -- first reason for which it is bad
 abbrev pub Parses : ScriptStage → List ℕ → Result (Option ALine) LineFault → ScriptStage → Type 0
-Parses old text (Ok None) new = (is_skipped text ≡ true) × HoldsNone (IsBad old text) (reasons text) × (new ≡ old)
-Parses old text (Ok (Some line)) new = (is_skipped text ≡ false) × HoldsNone (IsBad old text) (reasons text) × IsLineOf old.part (words_of text) line × (after old line ≡ Ok new)
-Parses old text (Err (Bad reason)) new = IsFirst (IsBad old text) (reasons text) reason × (new ≡ old)
+Parses old text (Ok None) new = (is_skipped text ≡ true) × NoneHolds (IsBad old text) (reasons text) × (new ≡ old)
+Parses old text (Ok (Some line)) new = (is_skipped text ≡ false) × NoneHolds (IsBad old text) (reasons text) × IsLineOf old.part (words_of text) line × (after old line ≡ Ok new)
+Parses old text (Err (Bad reason)) new = IsFirstReason (IsBad old text) (reasons text) reason × (new ≡ old)
 Parses old text (Err Memory) new = new ≡ old
 
 -- what a refusal of the tables makes of a line
@@ -104,7 +105,7 @@ TextIsReadBack = (stage new : ScriptStage) (text : List ℕ) (line : ALine) → 
 
 -- a text of at most 65,536 bytes that spells a line of the stage's part, which the tables take, is read as that line
 abbrev pub SpeltIsRead : Type 0
-SpeltIsRead = (stage new : ScriptStage) (text : List ℕ) (line : ALine) → length text ≤ 65536 → IsLineOf stage.part (words_of text) line → after stage line ≡ Ok new → Parses stage text (Ok (Some line)) new
+SpeltIsRead = (stage new : ScriptStage) (text : List ℕ) (line : ALine) → length text ≤ LONGEST_LINE → IsLineOf stage.part (words_of text) line → after stage line ≡ Ok new → Parses stage text (Ok (Some line)) new
 
 -- but for want of memory, a text has one answer at a stage and leaves one stage
 abbrev pub OneAnswerIsParsed : Type 0

@@ -23,15 +23,19 @@ is_skipped (b ∷ bytes) = b == 35
 abbrev pub remote : ARemote → Field
 remote r = Number 1 65535 r.0
 
+-- a bearer has a name from 1 to 32
 abbrev pub drb : Drb → Field
 drb d = Number 1 32 d.0
 
+-- a channel has a name from 1 to 8
 abbrev pub chan : Chan → Field
 chan c = Number 1 8 c.0
 
+-- a ticket is any number of 64 bits but 0
 abbrev pub ticket : ℕ → Field
 ticket t = Number 1 18446744073709551615 t
 
+-- the values of each setting
 abbrev pub value_of : SetName → ℕ → Field
 value_of Queue n = Number 1 1024 n
 value_of Reports n = Number 0 65536 n
@@ -137,6 +141,7 @@ IsNoLineOf part words = (line : Line) → IsLineOf part words line → ⊥
 abbrev pub IsOnly : List (List ℕ) → List ℕ → Type 0
 IsOnly words first = (length words ≡ 1) × (word_at 0 words ≡ first)
 
+-- the words are this first one and a ticket
 abbrev pub NamesTicket : List (List ℕ) → List ℕ → ℕ → Type 0
 NamesTicket words first t = (length words ≡ 2) × (word_at 0 words ≡ first) × IsSpelt (word_at 1 words) (ticket t)
 
@@ -162,9 +167,11 @@ is_about_work Drain = true
 is_about_work End = true
 is_about_work line = false
 
+-- the words spell no line about PDUs or timers
 abbrev pub IsNoPduLine : List (List ℕ) → Type 0
 IsNoPduLine words = (line : Line) → is_about_pdus line ≡ true → Spells words line → ⊥
 
+-- the words spell no line about work
 abbrev pub IsNoWorkLine : List (List ℕ) → Type 0
 IsNoWorkLine words = (line : Line) → is_about_work line ≡ true → Spells words line → ⊥
 

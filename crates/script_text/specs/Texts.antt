@@ -43,6 +43,7 @@ abbrev pub kind_text : Bool → List ℕ
 kind_text true = codes "status"
 kind_text false = codes "data"
 
+-- the word for what is wrong with a data PDU
 abbrev pub amd_fault_text : AmdFault → List ℕ
 amd_fault_text amd.Short = codes "short"
 amd_fault_text amd.Control = codes "control"
@@ -60,6 +61,7 @@ status_fault_text status.BackPart = codes "back-part"
 status_fault_text status.Trailing = codes "trailing"
 status_fault_text status.Memory = codes "memory"
 
+-- the word for why an SDU is dropped
 abbrev pub discard_text : ADiscard → List ℕ
 discard_text discards.Short = codes "short"
 discard_text discards.Control = codes "control"
@@ -124,6 +126,7 @@ reply_words (BadAmd fault) = codes "bad" ∷ amd_fault_text fault ∷ []
 reply_words (BadStatus fault) = codes "bad" ∷ status_fault_text fault ∷ []
 reply_words (Discard name) = codes "discard" ∷ discard_text name ∷ []
 
+-- the text of a reply
 abbrev pub reply_text : Reply → List ℕ
 reply_text reply = joined (reply_words reply)
 
@@ -136,6 +139,7 @@ event_words (Up key sdu) = codes "up" ∷ key_words key ++ hex_text sdu ∷ []
 event_words (Conf key confirmed) = codes "conf" ∷ key_words key ++ decimal confirmed ∷ []
 event_words (Rep key) = codes "rep" ∷ key_words key
 
+-- the text of an event
 abbrev pub event_text : Event → List ℕ
 event_text event = joined (event_words event)
 
@@ -147,6 +151,7 @@ event_line event = codes "  " ++ event_text event ++ 10 ∷ []
 abbrev pub answer_text : List Event → Reply → List ℕ
 answer_text events reply = flat_map event_line events ++ (reply_text reply ++ 10 ∷ [])
 
+-- the lines behind `go` are read
 abbrev pub is_running : Part → Bool
 is_running Running = true
 is_running part = false
@@ -164,12 +169,15 @@ entry_text line events reply = if is_printed line then answer_text events reply 
 abbrev pub total_text : Total → List ℕ
 total_text total = joined (codes "total" ∷ key_words total.key ++ decimal total.submitted ∷ decimal total.handed ∷ decimal total.confirmed ∷ []) ++ 10 ∷ []
 
+-- a line of totals for each key
 abbrev pub totals_text : List Total → List ℕ
 totals_text totals = flat_map total_text totals
 
+-- the last line of a run that came to its end
 abbrev pub done_text : List ℕ
 done_text = codes "done" ++ 10 ∷ []
 
+-- the word for why a line is bad
 abbrev pub reason_text : Reason → List ℕ
 reason_text reasons.Line = codes "line"
 reason_text reasons.Text = codes "text"
@@ -187,5 +195,6 @@ reason_text reasons.End = codes "end"
 abbrev pub bad_text : ℕ → List ℕ → List ℕ
 bad_text number reason = codes "bad " ++ decimal number ++ codes " " ++ reason ++ 10 ∷ []
 
+-- the last line of a run over a script that is too long
 abbrev pub too_long_text : List ℕ
 too_long_text = codes "too long" ++ 10 ∷ []

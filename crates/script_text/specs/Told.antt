@@ -22,9 +22,11 @@ FitsPort (Direct remote drb) = (remote.0 < 2 ^ 64) × (drb.0 < 2 ^ 64)
 FitsPort (Pc5 remote chan) = (remote.0 < 2 ^ 64) × (chan.0 < 2 ^ 64)
 FitsPort (Uu chan) = chan.0 < 2 ^ 64
 
+-- the same of a key
 abbrev pub FitsKey : Key → Type 0
 FitsKey key = (key.remote.0 < 2 ^ 64) × (key.drb.0 < 2 ^ 64)
 
+-- the same of a place of a local identity
 abbrev pub FitsPlace : Place → Type 0
 FitsPlace (Attached remote) = remote.0 < 2 ^ 64
 FitsPlace (Planned remote) = remote.0 < 2 ^ 64
@@ -32,6 +34,7 @@ FitsPlace (Slot port) = FitsPort port
 FitsPlace (Queue port) = FitsPort port
 FitsPlace (UuChan chan) = chan.0 < 2 ^ 64
 
+-- the same of a reply
 abbrev pub FitsReply : Reply → Type 0
 FitsReply (OkNumber n) = n < 2 ^ 64
 FitsReply (OkPort port) = FitsPort port
@@ -47,6 +50,7 @@ FitsReply (PlanOpen remote) = remote.0 < 2 ^ 64
 FitsReply (IdBusy place) = FitsPlace place
 FitsReply reply = Unit {0}
 
+-- the same of an event
 abbrev pub FitsEvent : Event → Type 0
 FitsEvent (Heard ticket reply) = (ticket < 2 ^ 64) × FitsReply reply
 FitsEvent (Left ticket) = ticket < 2 ^ 64
@@ -55,6 +59,7 @@ FitsEvent (Up key sdu) = FitsKey key × IsBytes sdu
 FitsEvent (Conf key confirmed) = FitsKey key × (confirmed < 2 ^ 64)
 FitsEvent (Rep key) = FitsKey key
 
+-- the same of events and their reply
 abbrev pub FitsAnswer : List Event → Reply → Type 0
 FitsAnswer events reply = AllByRecursion FitsEvent events × FitsReply reply
 
@@ -63,6 +68,7 @@ abbrev pub told : Reply → Reply
 told (BadStatus status.Short) = BadAmd amd.Short
 told reply = reply
 
+-- what the text of an event tells, where a heard PDU has a reply
 abbrev pub told_event : Event → Event
 told_event (Heard ticket reply) = Heard ticket (told reply)
 told_event event = event
@@ -87,6 +93,7 @@ TellSame [] (e ∷ h) = ⊥
 TellSame (d ∷ g) [] = ⊥
 TellSame (d ∷ g) (e ∷ h) = (d.line ≡ e.line) × (is_printed d.line ≡ true → (map told_event d.events ≡ map told_event e.events) × (told d.reply ≡ told e.reply)) × TellSame g h
 
+-- the same of an entry
 abbrev pub FitsEntry : Entry → Type 0
 FitsEntry e = FitsAnswer e.events e.reply
 

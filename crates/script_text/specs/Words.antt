@@ -61,6 +61,7 @@ abbrev pub size_text : SnSize → List ℕ
 size_text S12 = codes "12"
 size_text S18 = codes "18"
 
+-- the word is this size of sequence numbers
 abbrev pub IsSize : List ℕ → SnSize → Type 0
 IsSize word size = word ≡ size_text size
 
@@ -85,6 +86,7 @@ port_letter word = slice_index word 0
 abbrev pub before_point : List ℕ → List ℕ
 before_point word = before_first (λ b. b == 46) (drop 1 word)
 
+-- what stands behind the point of a port's name
 abbrev pub behind_point : List ℕ → List ℕ
 behind_point word = after_first (λ b. b == 46) (drop 1 word)
 
@@ -101,29 +103,35 @@ is_port_form word =
     else if (port_letter word == 100) || (port_letter word == 112) then is_numeral (before_point word) && is_numeral (behind_point word)
     else false
 
+-- how a port is written
 abbrev pub port_text : PortName → List ℕ
 port_text (Direct remote drb) = codes "d" ++ (decimal remote.0 ++ (codes "." ++ decimal drb.0))
 port_text (Pc5 remote chan) = codes "p" ++ (decimal remote.0 ++ (codes "." ++ decimal chan.0))
 port_text (Uu chan) = codes "u" ++ decimal chan.0
 
+-- how a way is written
 abbrev pub way_text : Way → List ℕ
 way_text Ul = codes "ul"
 way_text Dl = codes "dl"
 
+-- how a side is written
 abbrev pub side_text : Side → List ℕ
 side_text Low = codes "low"
 side_text High = codes "high"
 
+-- how a timer is written
 abbrev pub timer_text : Timer → List ℕ
 timer_text Poll = codes "poll"
 timer_text Reasm = codes "reasm"
 timer_text Prohibit = codes "prohibit"
 
+-- how a node is written
 abbrev pub node_text : Node → List ℕ
 node_text Remote = codes "remote"
 node_text Relay = codes "relay"
 node_text Gnb = codes "gnb"
 
+-- how the name of a setting is written
 abbrev pub setting_text : SetName → List ℕ
 setting_text Queue = codes "queue"
 setting_text Report = codes "report"

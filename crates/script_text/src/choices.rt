@@ -24,7 +24,8 @@ pub(crate) fn way(word: &[u8]) -> Option<Way>
 }
 
 pub(crate) fn side(word: &[u8]) -> Option<Side>
-    ensures { MatchOption result ((s : ASide) → word.now ≢ side_text s) (λ s. word.now ≡ side_text s) }
+    ensures { MatchOption result ((s : ASide) → word.now ≢ side_text s)
+        (λ s. word.now ≡ side_text s) }
 {
     if is_word(word, b"low") {
         Some(Side::Low)
@@ -36,7 +37,8 @@ pub(crate) fn side(word: &[u8]) -> Option<Side>
 }
 
 pub(crate) fn timer(word: &[u8]) -> Option<Timer>
-    ensures { MatchOption result ((t : ATimer) → word.now ≢ timer_text t) (λ t. word.now ≡ timer_text t) }
+    ensures { MatchOption result ((t : ATimer) → word.now ≢ timer_text t)
+        (λ t. word.now ≡ timer_text t) }
 {
     if is_word(word, b"poll") {
         Some(Timer::Poll)
@@ -50,7 +52,8 @@ pub(crate) fn timer(word: &[u8]) -> Option<Timer>
 }
 
 pub(crate) fn node(word: &[u8]) -> Option<Node>
-    ensures { MatchOption result ((n : ANode) → word.now ≢ node_text n) (λ n. word.now ≡ node_text n) }
+    ensures { MatchOption result ((n : ANode) → word.now ≢ node_text n)
+        (λ n. word.now ≡ node_text n) }
 {
     if is_word(word, b"remote") {
         Some(Node::Remote)
@@ -64,7 +67,8 @@ pub(crate) fn node(word: &[u8]) -> Option<Node>
 }
 
 pub(crate) fn setting(word: &[u8]) -> Option<SetName>
-    ensures { MatchOption result ((s : ASetting) → word.now ≢ setting_text s) (λ s. word.now ≡ setting_text s) }
+    ensures { MatchOption result ((s : ASetting) → word.now ≢ setting_text s)
+        (λ s. word.now ≡ setting_text s) }
 {
     if is_word(word, b"queue") {
         Some(SetName::Queue)

@@ -48,7 +48,9 @@ pub(crate) fn push_event(alloc: Global, out: &mut String, event: &Event) -> Resu
 }
 
 fn push_max_retx(out: &mut String, port: PortName, way: Way, number: u64) -> Result<(), AllocError>
-    ensures { OnOk result (string_bytes out.new ≡ string_bytes out.old ++ event_text (Event.MaxRetx port way number)) }
+    ensures { OnOk result
+        (string_bytes out.new ≡ string_bytes out.old
+        ++ event_text (Event.MaxRetx port way number)) }
 {
     out.push_str("maxretx ")?;
     push_port(out, port)?;

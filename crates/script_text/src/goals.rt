@@ -9,7 +9,8 @@ use link_base::{Goal, LocalId};
 
 /// The path behind the first two words: `direct`, or `relay ID` with an ID from 0 to 255.
 pub(crate) fn goal(words: &Words<'_>) -> Option<Goal>
-    ensures { MatchOption result ((g : AGoal) → EndsWithGoal words.now g → ⊥) (EndsWithGoal words.now) }
+    ensures { MatchOption result ((g : AGoal) → EndsWithGoal words.now g → ⊥)
+        (EndsWithGoal words.now) }
 {
     if words.len() == 3 && is_word(words.get(2), b"direct") {
         return Some(Goal::Direct);

@@ -30,7 +30,9 @@ fn is_hex_digit(byte: u8) -> bool
 
 /// The bytes that a word spells: an even positive number of hexadecimal digits of either case, or a dash for no bytes.
 pub fn hex_bytes(alloc: Global, word: &[u8]) -> Result<Option<Bytes>, Memory>
-    ensures { IfOk result (λ found. MatchOption found ((bytes : List ℕ) → IsHex word.now bytes → ⊥) (IsHex word.now)) }
+    ensures { IfOk result
+        (λ found. MatchOption found ((bytes : List ℕ) → IsHex word.now bytes → ⊥)
+        (IsHex word.now)) }
 {
     if is_word(word, b"-") {
         return Ok(Some(Bytes::new(alloc)));

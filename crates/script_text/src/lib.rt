@@ -7,6 +7,7 @@ mod event_texts;
 mod goals;
 mod hex_words;
 mod laws;
+mod limits;
 mod line;
 mod line_texts;
 mod next_line;
@@ -31,6 +32,7 @@ pub use laws::{
     one_answer_is_parsed, one_answer_is_told, one_history_is_told, one_line_is_spelt,
     text_is_read_back, what_is_spelt_is_read,
 };
+pub use limits::{LONGEST_LINE, LONGEST_SCRIPT};
 pub use line::Line;
 pub use line_texts::line_text;
 pub use next_line::{NextLine, next_line_of};

@@ -95,7 +95,8 @@ fn push_line(alloc: Global, out: &mut String, line: &Line) -> Result<(), AllocEr
 }
 
 fn push_grant(out: &mut String, port: PortName, way: Way, n: u32) -> Result<(), AllocError>
-    ensures { OnOk result (string_bytes out.new ≡ string_bytes out.old ++ line_text (Line.Grant port way n)) }
+    ensures { OnOk result
+        (string_bytes out.new ≡ string_bytes out.old ++ line_text (Line.Grant port way n)) }
 {
     out.push_str("grant ")?;
     push_port(out, port)?;
@@ -104,7 +105,8 @@ fn push_grant(out: &mut String, port: PortName, way: Way, n: u32) -> Result<(), 
 }
 
 fn push_expire(out: &mut String, port: PortName, side: Side, timer: Timer) -> Result<(), AllocError>
-    ensures { OnOk result (string_bytes out.new ≡ string_bytes out.old ++ line_text (Line.Expire port side timer)) }
+    ensures { OnOk result
+        (string_bytes out.new ≡ string_bytes out.old ++ line_text (Line.Expire port side timer)) }
 {
     out.push_str("expire ")?;
     push_port(out, port)?;
@@ -115,7 +117,9 @@ fn push_expire(out: &mut String, port: PortName, side: Side, timer: Timer) -> Re
 
 /// Adds a path, each of its words behind a space.
 fn push_goal(out: &mut String, goal: Goal) -> Result<(), AllocError>
-    ensures { OnOk result (string_bytes out.new ≡ string_bytes out.old ++ spaced (map field_text (goal_fields goal))) }
+    ensures { OnOk result
+        (string_bytes out.new ≡ string_bytes out.old
+        ++ spaced (map field_text (goal_fields goal))) }
 {
     match goal {
         Goal::Direct => out.push_str(" direct"),

@@ -1,14 +1,15 @@
 // Where a script's lines end.
 ghost use Rattle.std.specs.Prelude.{◌≡◌, ◌+◌, ◌<◌, ◌≤◌, length, ℕ, IfSome, IsNone, ◌++◌, ◌∷◌, take, drop};
-ghost use Rattle.script_text.specs.Splits.{IsNext, HasNoLf};
+ghost use Rattle.script_text.specs.declared.limits.TheConstants.{LONGEST_SCRIPT};
+ghost use Rattle.script_text.specs.Splits.{IsNextLine, HasNoLf};
+
+use crate::{LONGEST_LINE, LONGEST_SCRIPT};
+use memchr::memchr;
 
 const LF: u8 = 10;
 
-/// The greatest number of bytes of a script.
-const SCRIPT_LIMIT: usize = 16_777_216;
-
-/// The greatest number of bytes of a line, with its LF.
-const LINE_LIMIT: usize = 65_537;
+// The greatest number of bytes of a line, with its LF.
+const LONGEST_WITH_LF: usize = LONGEST_LINE + 1;
 
 /// What stands next in a script.
 pub enum NextLine<'a> {
@@ -24,14 +25,14 @@ pub enum NextLine<'a> {
 
 /// The next line of what is left of a script behind its first `used` bytes.
 pub fn next_line_of(rest: &[u8], used: usize) -> NextLine<'_>
-    requires { used ≤ 16777216 }
-    ensures { IsNext used rest.now result }
+    requires { used ≤ LONGEST_SCRIPT }
+    ensures { IsNextLine used rest.now result }
 {
-    let window = rest.len().min(LINE_LIMIT).min(SCRIPT_LIMIT - used);
+    let window = rest.len().min(LONGEST_WITH_LF).min(LONGEST_SCRIPT - used);
     match lf_within(&rest[..window]) {
         Some(at) => NextLine::Line(&rest[..at], &rest[at + 1..]),
         None => {
-            if window == LINE_LIMIT {
+            if window == LONGEST_WITH_LF {
                 NextLine::Long
             } else if window < rest.len() {
                 NextLine::TooLong
@@ -47,14 +48,10 @@ pub fn next_line_of(rest: &[u8], used: usize) -> NextLine<'_>
 /// The place of the first LF.
 fn lf_within(bytes: &[u8]) -> Option<usize>
     ensures found { IfSome result (λ at. at < length bytes.now) }
-    ensures split { IfSome result (λ at. bytes.now ≡ take at bytes.now ++ 10 ∷ drop (at + 1) bytes.now) }
+    ensures split { IfSome result
+        (λ at. bytes.now ≡ take at bytes.now ++ 10 ∷ drop (at + 1) bytes.now) }
     ensures before { IfSome result (λ at. HasNoLf (take at bytes.now)) }
     ensures none { IsNone result → HasNoLf bytes.now }
 {
-    for (at, byte) in bytes.iter().enumerate() {
-        if *byte == LF {
-            return Some(at);
-        }
-    }
-    None
+    memchr(LF, bytes)
 }

@@ -41,7 +41,8 @@ fn has_plain_head(word: &[u8]) -> bool
 
 /// A number in decimal, without a sign and without leading zeros.
 fn plain_number(word: &[u8]) -> Option<u64>
-    ensures { MatchOption result ((n : ℕ) → n < 2 ^ 64 → word.now ≢ decimal n) (λ n. word.now ≡ decimal n) }
+    ensures { MatchOption result ((n : ℕ) → n < 2 ^ 64 → word.now ≢ decimal n)
+        (λ n. word.now ≡ decimal n) }
 {
     if !has_plain_head(word) {
         return None;
@@ -54,7 +55,8 @@ fn plain_number(word: &[u8]) -> Option<u64>
 
 /// A number from `low` to `high`.
 pub(crate) fn number(word: &[u8], low: u64, high: u64) -> Option<u64>
-    ensures { MatchOption result ((n : ℕ) → IsNumber low high word.now n → ⊥) (IsNumber low high word.now) }
+    ensures { MatchOption result ((n : ℕ) → IsNumber low high word.now n → ⊥)
+        (IsNumber low high word.now) }
 {
     let n = plain_number(word)?;
     if low <= n && n <= high { Some(n) } else { None }

@@ -8,13 +8,10 @@ use crate::running_lines::running_line;
 use crate::shapes::{has_form, is_named};
 use crate::table_lines::{table_line, version_line};
 use crate::words::{Words, is_word};
-use crate::{Line, LineFault, Part, Reason, ScriptStage};
+use crate::{LONGEST_LINE, Line, LineFault, Part, Reason, ScriptStage};
 use bearer_map::TableFault;
 use link_base::Memory;
 use std::alloc::Global;
-
-/// The greatest number of bytes of a line.
-const LINE_LIMIT: usize = 65_536;
 
 /// Reads a line, without its LF, at a stage of a script. A table line is entered in the stage's tables.
 ///
@@ -27,7 +24,7 @@ pub fn parse_line(
 ) -> Result<Option<Line>, LineFault>
     ensures { Parses stage.old bytes.now result stage.new }
 {
-    if bytes.len() > LINE_LIMIT {
+    if bytes.len() > LONGEST_LINE {
         return Err(LineFault::Bad(Reason::Line));
     }
     if is_skipped(bytes) {
@@ -97,7 +94,8 @@ fn misspelling(part: Part, words: &Words<'_>) -> Reason
 
 /// The line of this part that the words spell.
 fn line_of(alloc: Global, part: Part, words: &Words<'_>) -> Result<Option<Line>, Memory>
-    ensures { IfOk result (λ found. MatchOption found (IsNoLineOf part words.now) (IsLineOf part words.now)) }
+    ensures { IfOk result
+        (λ found. MatchOption found (IsNoLineOf part words.now) (IsLineOf part words.now)) }
 {
     match part {
         Part::Start => Ok(version_line(words)),

@@ -81,7 +81,8 @@ pub(crate) fn push_reply(alloc: Global, out: &mut String, reply: &Reply) -> Resu
 }
 
 fn push_word_and_port(out: &mut String, word: &str, port: PortName) -> Result<(), AllocError>
-    ensures { OnOk result (string_bytes out.new ≡ string_bytes out.old ++ word.now ++ port_text port) }
+    ensures { OnOk result
+        (string_bytes out.new ≡ string_bytes out.old ++ word.now ++ port_text port) }
 {
     out.push_str(word)?;
     push_port(out, port)
@@ -95,7 +96,9 @@ fn push_air(
     number: u64,
     bytes: &[u8],
 ) -> Result<(), AllocError>
-    ensures { OnOk result (string_bytes out.new ≡ string_bytes out.old ++ reply_text (Reply.Air ticket status number bytes.now)) }
+    ensures { OnOk result
+        (string_bytes out.new ≡ string_bytes out.old
+        ++ reply_text (Reply.Air ticket status number bytes.now)) }
 {
     let kind = if status { "status" } else { "data" };
     write!(out, "air {ticket} {kind} {number} ")?;
@@ -103,7 +106,8 @@ fn push_air(
 }
 
 fn push_busy(out: &mut String, place: Place) -> Result<(), AllocError>
-    ensures { OnOk result (string_bytes out.new ≡ string_bytes out.old ++ reply_text (Reply.IdBusy place)) }
+    ensures { OnOk result
+        (string_bytes out.new ≡ string_bytes out.old ++ reply_text (Reply.IdBusy place)) }
 {
     match place {
         Place::Attached(remote) => write!(out, "idbusy attach {}", remote.0),

@@ -14,7 +14,9 @@ use std::alloc::Global;
 
 /// A line behind `go`.
 pub(crate) fn running_line(alloc: Global, words: &Words<'_>) -> Result<Option<Line>, Memory>
-    ensures { IfOk result (λ found. MatchOption found (IsNoLineOf Part.Running words.now) (IsLineOf Part.Running words.now)) }
+    ensures { IfOk result
+        (λ found. MatchOption found (IsNoLineOf Part.Running words.now)
+        (IsLineOf Part.Running words.now)) }
 {
     if let Some(line) = pdu_line(words) {
         return Ok(Some(line));
@@ -93,7 +95,8 @@ fn is_only(words: &Words<'_>, text: &[u8]) -> bool
 
 /// The ticket behind the name, as of `deliver T`.
 fn ticket_line(words: &Words<'_>, name: &[u8]) -> Option<u64>
-    ensures { MatchOption result ((t : ℕ) → NamesTicket words.now name.now t → ⊥) (NamesTicket words.now name.now) }
+    ensures { MatchOption result ((t : ℕ) → NamesTicket words.now name.now t → ⊥)
+        (NamesTicket words.now name.now) }
 {
     if words.len() != 2 || !is_word(words.get(0), name) {
         return None;
@@ -130,7 +133,8 @@ fn submit_line(alloc: Global, words: &Words<'_>) -> Result<Option<Line>, Memory>
 
 /// `grant PORT WAY N`.
 fn grant_line(words: &Words<'_>) -> Option<Line>
-    ensures { MatchOption result ((p w n : _) → Spells words.now (Line.Grant p w n) → ⊥) (IsLineOf Part.Running words.now) }
+    ensures { MatchOption result ((p w n : _) → Spells words.now (Line.Grant p w n) → ⊥)
+        (IsLineOf Part.Running words.now) }
 {
     if words.len() != 4 || !is_word(words.get(0), b"grant") {
         return None;
@@ -150,7 +154,8 @@ fn grant_line(words: &Words<'_>) -> Option<Line>
 
 /// `expire PORT SIDE TIMER`.
 fn expire_line(words: &Words<'_>) -> Option<Line>
-    ensures { MatchOption result ((p s t : _) → Spells words.now (Line.Expire p s t) → ⊥) (IsLineOf Part.Running words.now) }
+    ensures { MatchOption result ((p s t : _) → Spells words.now (Line.Expire p s t) → ⊥)
+        (IsLineOf Part.Running words.now) }
 {
     if words.len() != 4 || !is_word(words.get(0), b"expire") {
         return None;
@@ -169,7 +174,8 @@ fn expire_line(words: &Words<'_>) -> Option<Line>
 
 /// `push PORT`.
 fn push_line(words: &Words<'_>) -> Option<Line>
-    ensures { MatchOption result ((p : _) → Spells words.now (Line.Push p) → ⊥) (IsLineOf Part.Running words.now) }
+    ensures { MatchOption result ((p : _) → Spells words.now (Line.Push p) → ⊥)
+        (IsLineOf Part.Running words.now) }
 {
     if words.len() != 2 || !is_word(words.get(0), b"push") {
         return None;
@@ -182,7 +188,8 @@ fn push_line(words: &Words<'_>) -> Option<Line>
 
 /// `pull PORT`.
 fn pull_line(words: &Words<'_>) -> Option<Line>
-    ensures { MatchOption result ((p : _) → Spells words.now (Line.Pull p) → ⊥) (IsLineOf Part.Running words.now) }
+    ensures { MatchOption result ((p : _) → Spells words.now (Line.Pull p) → ⊥)
+        (IsLineOf Part.Running words.now) }
 {
     if words.len() != 2 || !is_word(words.get(0), b"pull") {
         return None;
@@ -195,7 +202,8 @@ fn pull_line(words: &Words<'_>) -> Option<Line>
 
 /// `report R D WAY`.
 fn report_line(words: &Words<'_>) -> Option<Line>
-    ensures { MatchOption result ((k : _) → Spells words.now (Line.Report k) → ⊥) (IsLineOf Part.Running words.now) }
+    ensures { MatchOption result ((k : _) → Spells words.now (Line.Report k) → ⊥)
+        (IsLineOf Part.Running words.now) }
 {
     if words.len() != 4 || !is_word(words.get(0), b"report") {
         return None;
@@ -215,7 +223,8 @@ fn report_line(words: &Words<'_>) -> Option<Line>
 
 /// `plan R direct` or `plan R relay ID`.
 fn plan_line(words: &Words<'_>) -> Option<Line>
-    ensures { MatchOption result ((r g : _) → Spells words.now (Line.Plan r g) → ⊥) (IsLineOf Part.Running words.now) }
+    ensures { MatchOption result ((r g : _) → Spells words.now (Line.Plan r g) → ⊥)
+        (IsLineOf Part.Running words.now) }
 {
     if !is_word(words.get(0), b"plan") {
         return None;
@@ -231,7 +240,8 @@ fn plan_line(words: &Words<'_>) -> Option<Line>
 
 /// `apply R NODE`.
 fn apply_line(words: &Words<'_>) -> Option<Line>
-    ensures { MatchOption result ((r n : _) → Spells words.now (Line.Apply r n) → ⊥) (IsLineOf Part.Running words.now) }
+    ensures { MatchOption result ((r n : _) → Spells words.now (Line.Apply r n) → ⊥)
+        (IsLineOf Part.Running words.now) }
 {
     if words.len() != 3 || !is_word(words.get(0), b"apply") {
         return None;

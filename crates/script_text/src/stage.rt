@@ -2,7 +2,7 @@
 ghost use Rattle.std.specs.Prelude.{◌≡◌, IfOk, IfSome, IfNone, Some, None, if◌then◌else◌};
 ghost use Rattle.bearer_map.specs.Lines.{Follows};
 ghost use Rattle.bearer_map.specs.Contents.{nothing};
-ghost use Rattle.script_text.specs.Stages.{Enters, after, bits, first_stage, is_past_go, part_after, table_line, without_tables};
+ghost use Rattle.script_text.specs.Stages.{EntersStage, after, sn_bits, first_stage, is_past_go, part_after, table_line, without_tables};
 
 use crate::Line;
 use bearer_map::{TableFault, Tables};
@@ -59,7 +59,8 @@ impl ScriptStage {
     /// lines behind `go` are read without them.
     pub fn take_tables(&mut self) -> Option<Tables>
         ensures taken { result ≡ (if is_past_go self.old.part then self.old.tables else None) }
-        ensures left { self.new ≡ (if is_past_go self.old.part then without_tables self.old else self.old) }
+        ensures left { self.new
+            ≡ (if is_past_go self.old.part then without_tables self.old else self.old) }
     {
         match self.part {
             Part::Start | Part::Tables => None,
@@ -69,7 +70,7 @@ impl ScriptStage {
 
     /// Reads a line of this part. After an `Err` the stage is as it was.
     pub(crate) fn enter(&mut self, line: &Line) -> Result<(), TableFault>
-        ensures { Enters result self.old self.new (after self.old line.now) }
+        ensures { EntersStage result self.old self.new (after self.old line.now) }
     {
         match &mut self.tables {
             Some(tables) => declare(tables, line)?,
@@ -141,7 +142,7 @@ fn declare(tables: &mut Tables, line: &Line) -> Result<(), TableFault>
 
 /// How many bits a sequence number has.
 fn bits(size: SnSize) -> u32
-    ensures { result ≡ bits size }
+    ensures { result ≡ sn_bits size }
 {
     match size {
         SnSize::S12 => 12,

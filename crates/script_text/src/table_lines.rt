@@ -27,7 +27,8 @@ pub(crate) fn version_line(words: &Words<'_>) -> Option<Line>
 
 /// A line of the tables.
 pub(crate) fn table_line(words: &Words<'_>) -> Option<Line>
-    ensures { MatchOption result (IsNoLineOf Part.Tables words.now) (IsLineOf Part.Tables words.now) }
+    ensures { MatchOption result (IsNoLineOf Part.Tables words.now)
+        (IsLineOf Part.Tables words.now) }
 {
     if let Some(line) = set_line(words) {
         return Some(line);
@@ -61,7 +62,8 @@ pub(crate) fn table_line(words: &Words<'_>) -> Option<Line>
 
 /// `set NAME N`.
 fn set_line(words: &Words<'_>) -> Option<Line>
-    ensures { MatchOption result ((s v : _) → Spells words.now (Line.Set s v) → ⊥) (IsLineOf Part.Tables words.now) }
+    ensures { MatchOption result ((s v : _) → Spells words.now (Line.Set s v) → ⊥)
+        (IsLineOf Part.Tables words.now) }
 {
     if words.len() != 3 || !is_word(words.get(0), b"set") {
         return None;
@@ -77,7 +79,8 @@ fn set_line(words: &Words<'_>) -> Option<Line>
 
 /// A value in a setting's range.
 fn value(name: SetName, word: &[u8]) -> Option<u32>
-    ensures { MatchOption result ((v : ℕ) → IsSpelt word.now (value_of name v) → ⊥) (λ v. IsSpelt word.now (value_of name v)) }
+    ensures { MatchOption result ((v : ℕ) → IsSpelt word.now (value_of name v) → ⊥)
+        (λ v. IsSpelt word.now (value_of name v)) }
 {
     let (low, high) = match name {
         SetName::Queue => (1, 1_024),
@@ -93,7 +96,8 @@ fn value(name: SetName, word: &[u8]) -> Option<u32>
 
 /// `remote R`.
 fn remote_line(words: &Words<'_>) -> Option<Line>
-    ensures { MatchOption result ((r : _) → Spells words.now (Line.Remote r) → ⊥) (IsLineOf Part.Tables words.now) }
+    ensures { MatchOption result ((r : _) → Spells words.now (Line.Remote r) → ⊥)
+        (IsLineOf Part.Tables words.now) }
 {
     if words.len() != 2 || !is_word(words.get(0), b"remote") {
         return None;
@@ -106,7 +110,8 @@ fn remote_line(words: &Words<'_>) -> Option<Line>
 
 /// `bearer R D P C`.
 fn bearer_line(words: &Words<'_>) -> Option<Line>
-    ensures { MatchOption result ((r d p c : _) → Spells words.now (Line.Bearer r d p c) → ⊥) (IsLineOf Part.Tables words.now) }
+    ensures { MatchOption result ((r d p c : _) → Spells words.now (Line.Bearer r d p c) → ⊥)
+        (IsLineOf Part.Tables words.now) }
 {
     if words.len() != 5 || !is_word(words.get(0), b"bearer") {
         return None;
@@ -133,7 +138,8 @@ fn bearer_line(words: &Words<'_>) -> Option<Line>
 
 /// `uu U S`.
 fn uu_line(words: &Words<'_>) -> Option<Line>
-    ensures { MatchOption result ((c s : _) → Spells words.now (Line.Uu c s) → ⊥) (IsLineOf Part.Tables words.now) }
+    ensures { MatchOption result ((c s : _) → Spells words.now (Line.Uu c s) → ⊥)
+        (IsLineOf Part.Tables words.now) }
 {
     if words.len() != 3 || !is_word(words.get(0), b"uu") {
         return None;
@@ -149,7 +155,8 @@ fn uu_line(words: &Words<'_>) -> Option<Line>
 
 /// `pc5 R C S`.
 fn pc5_line(words: &Words<'_>) -> Option<Line>
-    ensures { MatchOption result ((r c s : _) → Spells words.now (Line.Pc5 r c s) → ⊥) (IsLineOf Part.Tables words.now) }
+    ensures { MatchOption result ((r c s : _) → Spells words.now (Line.Pc5 r c s) → ⊥)
+        (IsLineOf Part.Tables words.now) }
 {
     if words.len() != 4 || !is_word(words.get(0), b"pc5") {
         return None;
@@ -168,7 +175,8 @@ fn pc5_line(words: &Words<'_>) -> Option<Line>
 
 /// `map R D C U`.
 fn map_line(words: &Words<'_>) -> Option<Line>
-    ensures { MatchOption result ((r d c u : _) → Spells words.now (Line.Map r d c u) → ⊥) (IsLineOf Part.Tables words.now) }
+    ensures { MatchOption result ((r d c u : _) → Spells words.now (Line.Map r d c u) → ⊥)
+        (IsLineOf Part.Tables words.now) }
 {
     if words.len() != 5 || !is_word(words.get(0), b"map") {
         return None;
@@ -195,7 +203,8 @@ fn map_line(words: &Words<'_>) -> Option<Line>
 
 /// `start R D WAY N`.
 fn start_line(words: &Words<'_>) -> Option<Line>
-    ensures { MatchOption result ((k n : _) → Spells words.now (Line.Start k n) → ⊥) (IsLineOf Part.Tables words.now) }
+    ensures { MatchOption result ((k n : _) → Spells words.now (Line.Start k n) → ⊥)
+        (IsLineOf Part.Tables words.now) }
 {
     if words.len() != 5 || !is_word(words.get(0), b"start") {
         return None;
@@ -219,7 +228,8 @@ fn start_line(words: &Words<'_>) -> Option<Line>
 
 /// `path R direct` or `path R relay ID`.
 fn path_line(words: &Words<'_>) -> Option<Line>
-    ensures { MatchOption result ((r g : _) → Spells words.now (Line.Path r g) → ⊥) (IsLineOf Part.Tables words.now) }
+    ensures { MatchOption result ((r g : _) → Spells words.now (Line.Path r g) → ⊥)
+        (IsLineOf Part.Tables words.now) }
 {
     if !is_word(words.get(0), b"path") {
         return None;

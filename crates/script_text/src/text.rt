@@ -41,7 +41,8 @@ pub(crate) fn way_text(way: Way) -> &'static str
 
 /// Adds remote, bearer and way, each behind a space.
 pub(crate) fn push_key(out: &mut String, key: &Key) -> Result<(), AllocError>
-    ensures { OnOk result (string_bytes out.new ≡ string_bytes out.old ++ spaced (key_words key.now)) }
+    ensures { OnOk result
+        (string_bytes out.new ≡ string_bytes out.old ++ spaced (key_words key.now)) }
 {
     let remote = key.remote.0;
     let drb = key.drb.0;

@@ -33,7 +33,8 @@ pub fn push_answer(
     events: &[Event],
     reply: &Reply,
 ) -> Result<(), AllocError>
-    ensures { OnOk result (string_bytes out.new ≡ string_bytes out.old ++ entry_text line.now events.now reply.now) }
+    ensures { OnOk result
+        (string_bytes out.new ≡ string_bytes out.old ++ entry_text line.now events.now reply.now) }
 {
     if is_printed(line) {
         push_events_and_reply(alloc, out, events, reply)
@@ -71,7 +72,8 @@ fn push_events_and_reply(
     events: &[Event],
     reply: &Reply,
 ) -> Result<(), AllocError>
-    ensures { OnOk result (string_bytes out.new ≡ string_bytes out.old ++ answer_text events.now reply.now) }
+    ensures { OnOk result
+        (string_bytes out.new ≡ string_bytes out.old ++ answer_text events.now reply.now) }
 {
     for event in events {
         push_event_line(alloc, out, event)?;
@@ -90,7 +92,8 @@ fn push_event_line(alloc: Global, out: &mut String, event: &Event) -> Result<(),
 
 /// Adds the last line of a run that stops at a bad line: its number, from 1, and the word of the reason.
 pub fn push_bad_line(out: &mut String, number: u64, reason: &str) -> Result<(), AllocError>
-    ensures { OnOk result (string_bytes out.new ≡ string_bytes out.old ++ bad_text number reason.now) }
+    ensures { OnOk result
+        (string_bytes out.new ≡ string_bytes out.old ++ bad_text number reason.now) }
 {
     write!(out, "bad {number} {reason}\n")
 }
@@ -124,7 +127,8 @@ fn push_totals(out: &mut String, totals: &[Total]) -> Result<(), AllocError>
 
 /// Adds the totals of a run that came to its end, and its last line.
 pub fn push_totals_and_done(out: &mut String, totals: &[Total]) -> Result<(), AllocError>
-    ensures { OnOk result (string_bytes out.new ≡ string_bytes out.old ++ totals_text totals.now ++ done_text) }
+    ensures { OnOk result
+        (string_bytes out.new ≡ string_bytes out.old ++ totals_text totals.now ++ done_text) }
 {
     push_totals(out, totals)?;
     out.push_str("done\n")

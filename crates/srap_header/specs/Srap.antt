@@ -10,9 +10,11 @@ pub record Srap : Type 0 where
   pub ue : ℕ
   pub body : List ℕ
 
+-- the PDU with these fields
 abbrev pub srap : ℕ → ℕ → List ℕ → Srap
 srap bearer ue body = record { bearer = bearer; ue = ue; body = body }
 
+-- the PDU that a view shows
 abbrev pub srap_of : SrapView → Srap
 srap_of v = srap v.bearer v.ue v.body.now
 
@@ -27,18 +29,18 @@ IsSrap v (first ∷ ue ∷ body) = IsFirstOctet v.bearer first × (v.ue ≡ ue) 
 IsSrap v bytes = ⊥
 
 -- what has a spelling
-pub record Fits (v : Srap) : Type 0 where
+pub record SrapFits (v : Srap) : Type 0 where
   pub bearer : v.bearer < 32
   pub ue : v.ue < 256
   pub body : 1 ≤ length v.body
 
 -- the one spelling with reserved bits 0
-abbrev pub bytes_of : Srap → List ℕ
-bytes_of v = (128 + v.bearer) ∷ v.ue ∷ v.body
+abbrev pub srap_bytes : Srap → List ℕ
+srap_bytes v = (128 + v.bearer) ∷ v.ue ∷ v.body
 
 -- the reserved bits 6 and 5 of the first octet are 0
-abbrev pub HasNoReservedBits : List ℕ → Type 0
-HasNoReservedBits bytes = slice_index bytes 0 / 32 % 4 ≡ 0
+abbrev pub IsPlainSrap : List ℕ → Type 0
+IsPlainSrap bytes = slice_index bytes 0 / 32 % 4 ≡ 0
 
 -- there is no octet
 abbrev pub is_empty : List ℕ → Bool
@@ -49,21 +51,22 @@ abbrev pub is_control : List ℕ → Bool
 is_control bytes = nat_lt (slice_index bytes 0) 128
 
 -- the header of two octets isn't whole
-abbrev pub is_cut : List ℕ → Bool
-is_cut bytes = nat_lt (length bytes) 2
+abbrev pub srap_is_cut : List ℕ → Bool
+srap_is_cut bytes = nat_lt (length bytes) 2
 
 -- no octet follows the header
-abbrev pub has_no_body : List ℕ → Bool
-has_no_body bytes = nat_lt (length bytes) 3
+abbrev pub srap_has_no_body : List ℕ → Bool
+srap_has_no_body bytes = nat_lt (length bytes) 3
 
 -- the first of the faults that holds, in this order
-abbrev pub first_fault : List ℕ → Option SrapFault
-first_fault bytes =
+abbrev pub first_srap_fault : List ℕ → Option SrapFault
+first_srap_fault bytes =
     if is_empty bytes then Some Short
     else if is_control bytes then Some Control
-    else if is_cut bytes then Some Short
-    else if has_no_body bytes then Some NoBody
+    else if srap_is_cut bytes then Some Short
+    else if srap_has_no_body bytes then Some NoBody
     else None
 
-abbrev pub IsFault : List ℕ → SrapFault → Type 0
-IsFault bytes fault = first_fault bytes ≡ Some fault
+-- this is the first fault of the octets
+abbrev pub IsSrapFault : List ℕ → SrapFault → Type 0
+IsSrapFault bytes fault = first_srap_fault bytes ≡ Some fault

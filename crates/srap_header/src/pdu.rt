@@ -1,6 +1,6 @@
 // The PDU's fields, and its octets.
 ghost use Rattle.std.specs.Prelude.{◌≡◌, ◌<◌, ◌≤◌, length, IfOk, IfErr, IsOkAnd};
-ghost use Rattle.srap_header.specs.Srap.{Srap, srap_of, srap, IsSrap, Fits, bytes_of, IsFault};
+ghost use Rattle.srap_header.specs.Srap.{Srap, srap_of, srap, IsSrap, SrapFits, srap_bytes, IsSrapFault};
 
 use link_base::{Bytes, Memory};
 use std::alloc::Global;
@@ -39,10 +39,10 @@ pub fn read(bytes: &[u8]) -> Result<SrapView<'_>, SrapFault>
     ensures read { IfOk result (λ v. IsSrap (srap_of v) bytes.now) }
     ensures spelt { (v : Srap) → IsSrap v bytes.now → IsOkAnd result (λ w. srap_of w ≡ v) }
     // What is read can be written.
-    ensures fits { IfOk result (λ v. Fits (srap_of v)) }
+    ensures fits { IfOk result (λ v. SrapFits (srap_of v)) }
     // A fault that comes is the first that holds, and the first that holds comes.
-    ensures fault { IfErr result (IsFault bytes.now) }
-    ensures refused { (fault : SrapFault) → IsFault bytes.now fault → result ≡ Err fault }
+    ensures fault { IfErr result (IsSrapFault bytes.now) }
+    ensures refused { (fault : SrapFault) → IsSrapFault bytes.now fault → result ≡ Err fault }
 {
     match bytes {
         [] => Err(SrapFault::Short),
@@ -63,7 +63,7 @@ pub fn read(bytes: &[u8]) -> Result<SrapView<'_>, SrapFault>
 pub fn write(alloc: Global, bearer: u8, ue: u8, body: &[u8]) -> Result<Bytes, Memory>
     requires bearer { bearer < 32 }
     requires body { 1 ≤ length body.now }
-    ensures bytes { IfOk result (λ bytes. bytes ≡ bytes_of (srap bearer ue body.now)) }
+    ensures bytes { IfOk result (λ bytes. bytes ≡ srap_bytes (srap bearer ue body.now)) }
     ensures spelt { IfOk result (IsSrap (srap bearer ue body.now)) }
 {
     let mut bytes = Bytes::new(alloc);

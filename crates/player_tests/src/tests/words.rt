@@ -1,10 +1,12 @@
 // What the words behind the program's name ask for.
 use super::{FIRST_DELIVERY, FIRST_TRACE};
-use link_base::{NumberList, copy_bytes};
-use link_io::{MemSink, MemSource};
-use player::top;
+use link_base::{Memory, NumberList, copy_bytes};
+use link_io::{Failed, MemSink, MemSource, Source};
+use player::{program, top};
 use std::alloc::{AllocError, Global};
-use std::process::Abort;
+use std::env::Args;
+use std::io;
+use std::process::{Abort, ExitCode};
 use std::test::Fail;
 
 const USAGE: &str = "usage: relayplay play | work | show FORM HEX | load N\n";
@@ -18,7 +20,7 @@ fn words_of(alloc: Global, row: &str) -> Result<Vec<String>, AllocError> {
     Ok(words)
 }
 
-/// Runs the program with words over a first delivery: it ends with this status, and writes this text.
+/// Runs the program with words that don't read: it ends with this status, and writes this text.
 fn expect_words(
     rt: &impl Abort,
     alloc: Global,
@@ -26,8 +28,7 @@ fn expect_words(
     status: u8,
     text: &str,
 ) -> Result<(), Fail> {
-    let script = copy_bytes(alloc, FIRST_DELIVERY.as_bytes())?;
-    let mut source = MemSource::new(script, 64, NumberList::new(alloc));
+    let mut source = first_delivery(alloc, &[1])?;
     let mut sink = MemSink::new(alloc, 64, NumberList::new(alloc));
     assert_eq!(rt;
         top(alloc, words, &mut source, &mut sink),
@@ -35,7 +36,19 @@ fn expect_words(
         "{words:?}"
     );
     assert_eq!(rt; sink.written(), text.as_bytes(), "{words:?}");
+    // The first read is still to come.
+    assert_eq!(rt; source.read(&mut [0u8; 1]), Err(Failed), "{words:?}");
     Ok(())
+}
+
+/// The script of a first delivery, of which these reads fail.
+fn first_delivery(alloc: Global, failing: &[u64]) -> Result<MemSource, Memory> {
+    let script = copy_bytes(alloc, FIRST_DELIVERY.as_bytes())?;
+    let mut fails = NumberList::new(alloc);
+    for number in failing {
+        fails.push(*number)?;
+    }
+    Ok(MemSource::new(script, 64, fails))
 }
 
 /// Runs the program with the words of each row. It ends with this status, and writes the lines that stand behind bars.
@@ -72,10 +85,8 @@ show pdcp12 00
 show pdcp18 0000000000c0";
 
 #[test]
-fn words_that_play_or_ask_for_nothing(rt: HostRuntime) -> Result<(), Fail> {
+fn words_that_ask_for_nothing(rt: HostRuntime) -> Result<(), Fail> {
     let alloc = rt.alloc();
-    let words = words_of(alloc, "play")?;
-    expect_words(&rt, alloc, &words, 0, FIRST_TRACE)?;
     expect_words(&rt, alloc, &Vec::new(alloc), 2, USAGE)?;
     for row in NO_REQUESTS.split('\n') {
         let words = words_of(alloc, row)?;
@@ -102,4 +113,44 @@ show srap 8005|refused no-body";
 fn words_that_show_a_pdu(rt: HostRuntime) -> Result<(), Fail> {
     expect_rows(&rt, rt.alloc(), SHOWN, 0)?;
     expect_rows(&rt, rt.alloc(), REFUSED, 7)
+}
+
+/// Runs the program with arguments over a first delivery: it ends with this status, and writes this text.
+fn expect_program(
+    rt: &impl Abort,
+    alloc: Global,
+    args: io::Result<Args>,
+    status: u8,
+    text: &str,
+) -> Result<(), Fail> {
+    let mut source = first_delivery(alloc, &[])?;
+    let mut sink = MemSink::new(alloc, 64, NumberList::new(alloc));
+    let code = program(alloc, args, &mut source, &mut sink);
+    assert_eq!(rt; code, ExitCode::from(status));
+    assert_eq!(rt; sink.written(), text.as_bytes());
+    Ok(())
+}
+
+#[test]
+fn arguments(rt: HostRuntime) -> Result<(), Fail> {
+    let alloc = rt.alloc();
+    let srap = "srap bearer 0 ue 5 body 80006869\n";
+    for (row, status, text) in [
+        ("relayplay play", 0, FIRST_TRACE),
+        ("play play", 0, FIRST_TRACE),
+        ("relayplay show srap 800580006869", 0, srap),
+        ("relayplay show amd12 00", 7, "refused control\n"),
+        ("relayplay", 2, USAGE),
+        ("play", 2, USAGE),
+        ("relayplay relayplay play", 2, USAGE),
+        ("relayplay show 800580006869 srap", 2, USAGE),
+    ] {
+        let args = words_of(alloc, row)?.into_iter();
+        expect_program(&rt, alloc, Ok(args), status, text)?;
+    }
+    expect_program(&rt, alloc, Ok(Vec::new(alloc).into_iter()), 2, USAGE)?;
+    let unread = io::Error::from(io::ErrorKind::InvalidData);
+    expect_program(&rt, alloc, Err(unread), 2, USAGE)?;
+    let wanting = io::Error::from(io::ErrorKind::OutOfMemory);
+    expect_program(&rt, alloc, Err(wanting), 5, "")
 }

@@ -2,17 +2,17 @@ use Rattle.std.proofs.Common.{◌≡◌, ℕ, ◌+◌, ◌/◌, ◌%◌, ◌<◌
 use Rattle.std.specs.Prelude.{All}
 use Rattle.link_base.specs.declared.names.SnSize.{SnSize}
 use Rattle.link_base.specs.declared.names.SnSize.TheVariants.{S12, S18}
-use Rattle.pdcp_pdu.specs.Pdcp.{Pdcp, Sdu, Report, IsPdcp, Fits, bytes_of, HasNoReservedBits}
+use Rattle.pdcp_pdu.specs.Pdcp.{Pdcp, Sdu, Report, IsPdcp, PdcpFits, pdcp_bytes, IsPlainPdcp}
 use Rattle.pdcp_pdu.proofs.laws.one_spelling_without_reserved_bits.Goals as goal
 
 -- what fits is spelt by its octets with reserved bits 0
-spelt : (size : SnSize) (v : Pdcp) → Fits size v → IsPdcp size v (bytes_of size v) × HasNoReservedBits size v (bytes_of size v)
+spelt : (size : SnSize) (v : Pdcp) → PdcpFits size v → IsPdcp size v (pdcp_bytes size v) × IsPlainPdcp size v (pdcp_bytes size v)
 spelt S12 (Sdu sn body) fits = ((omega arith, omega arith, refl, fits.1), omega arith)
 spelt S18 (Sdu sn body) fits = ((omega arith, omega arith, refl, fits.1), omega arith)
 spelt size (Report fmc map) fits = (((refl, refl), omega arith, refl, fits.1), refl)
 
 -- each octet of a spelling with reserved bits 0 is the one that is written
-one : (size : SnSize) (v : Pdcp) (bytes : List ℕ) → All (λ octet. octet < 256) bytes → IsPdcp size v bytes → HasNoReservedBits size v bytes → bytes ≡ bytes_of size v
+one : (size : SnSize) (v : Pdcp) (bytes : List ℕ) → All (λ octet. octet < 256) bytes → IsPdcp size v bytes → IsPlainPdcp size v bytes → bytes ≡ pdcp_bytes size v
 one S12 (Sdu sn body) (first ∷ low ∷ rest) small x free =
     let below : low < 256 = small 1 0 (omega arith) in
     let a : first ≡ 128 + sn / 256 = omega (arith, x.0, x.1) in

@@ -3,7 +3,7 @@ use Rattle.script_text.specs.declared.reason.Reason.TheVariants as reason
 use Rattle.player.specs.declared.play.Ending.{Ending}
 use Rattle.player.specs.Ended.{is_ended}
 use Rattle.player.specs.Runs.{IsRun}
-use Rattle.player.proofs.Going.{run_done, run_bad, run_too_long, run_turns, run_over, run_on}
+use Rattle.player.proofs.RunUnderWay.{run_done, run_bad, run_too_long, run_turns, run_over, run_on}
 use Rattle.player.proofs.play.play_lines.Goals as goal
 
 pub returns-then-has_ended : goal.returns-then-has_ended
@@ -18,7 +18,7 @@ returns-in-Some c =
     let line = c.in-Line.ensures in
     let going : is_ended c.loop-rest.player.stage.part ≡ false = sym c.has_ended.ensures ∙ c.if-has_ended.false in
     let turns = rw c.in-Some.is at (c.in_ok-ending-in-Line.ensures.reads g.history g.plays g.written) in
-    run_turns c.args.input.now c.loop-rest.rest.now c.loop-rest.number c.loop-rest.player (string_bytes c.loop-rest.out) (string_bytes c.read_line.new.out) g going c.in-Line.text.now c.in-Line.after.now line.0 line.1.short c.read_line.new.player c.in-Some.ending turns
+    run_turns c.args.input.now c.loop-rest.rest.now c.loop-rest.number c.loop-rest.player (string_bytes c.loop-rest.out) (string_bytes c.read_line.new.out) g going c.in-Line.text.now c.in-Line.after.now line.0 line.1 c.read_line.new.player c.in-Some.ending turns
 
 pub loop-rest-preserved : goal.loop-rest-preserved
 loop-rest-preserved c =

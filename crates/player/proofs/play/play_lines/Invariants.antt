@@ -1,6 +1,6 @@
 use Rattle.std.proofs.Common.{length}
 use Rattle.std.specs.String.{string_bytes}
-use Rattle.player.proofs.Going.{IsGoing}
+use Rattle.player.proofs.RunUnderWay.{IsGoing}
 use Rattle.player.proofs.play.play_lines.Given as goal
 
 abbrev pub invariant-loop-rest : goal.invariant-loop-rest

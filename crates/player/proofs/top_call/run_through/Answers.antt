@@ -1,7 +1,8 @@
-use Rattle.std.proofs.Common.{inr, ap, Err}
+use Rattle.std.proofs.Common.{inr}
 use Rattle.player.specs.Runs.{IsRun}
-use Rattle.player.proofs.Going.{run_as}
+use Rattle.player.proofs.RunUnderWay.{run_as}
 use Rattle.player.proofs.Complete.{scripts_end}
+use Rattle.player.proofs.Serving.{cuts_off}
 use Rattle.player.proofs.top_call.run_through.Goals as goal
 
 pub returns-in-Ok-write_all-clause-played : goal.returns-in-Ok-write_all-clause-played
@@ -19,26 +20,8 @@ returns-in-Ok-write_all-clause-played g c =
 
 pub returns-in-Err-Failed-write_all-clause-sink : goal.returns-in-Err-Failed-write_all-clause-sink
 returns-in-Err-Failed-write_all-clause-sink g c = λ e.
-    let read = c.in-Ok.ensures in (
-      c.in-Err-Failed-write_all.ensures.failed (ap (λ x. Err x) c.in-Err-Failed-write_all.field-0-is),
-      record {
-        input = c.in-Ok.input;
-        ending = c.in-Ok-play_script.ending;
-        text = c.as_bytes.result.now;
-        is_input = record { taken = read.taken; limit = read.bound; whole = read.whole };
-        is_run = run_as _ _ c.in-Ok-play_script.ending _ _ c.as_slice.ensures c.as_bytes.ensures.value c.in-Ok-play_script.ensures;
-        is_front = c.write_all.ensures.front;
-      },
-    )
+    cuts_off c.in-Ok.ensures.taken c.in-Ok.ensures.bound c.in-Ok.ensures.whole c.as_slice.ensures c.as_bytes.ensures.value c.in-Ok-play_script.ending c.in-Ok-play_script.ensures c.write_all.ensures.front
 
 pub returns-in-Ok-play_script-clause-memory : goal.returns-in-Ok-play_script-clause-memory
 returns-in-Ok-play_script-clause-memory g c = λ e.
-    let read = c.in-Ok.ensures in
-    inr (record {
-      input = c.in-Ok.input;
-      ending = c.in-Ok-play_script.ending;
-      text = c.as_bytes.result.now;
-      is_input = record { taken = read.taken; limit = read.bound; whole = read.whole };
-      is_run = run_as _ _ c.in-Ok-play_script.ending _ _ c.as_slice.ensures c.as_bytes.ensures.value c.in-Ok-play_script.ensures;
-      is_front = c.write_all.ensures.front;
-    })
+    inr (cuts_off c.in-Ok.ensures.taken c.in-Ok.ensures.bound c.in-Ok.ensures.whole c.as_slice.ensures c.as_bytes.ensures.value c.in-Ok-play_script.ending c.in-Ok-play_script.ensures c.write_all.ensures.front)

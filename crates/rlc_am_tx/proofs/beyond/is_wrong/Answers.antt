@@ -2,13 +2,13 @@ use Rattle.std.proofs.Common.{◌≡◌, ◌+◌, ◌-◌, ap, subst, arith}
 use Rattle.std.specs.Bool.{MatchBool}
 use Rattle.rlc_status.specs.Says.{count}
 use Rattle.rlc_am_tx.specs.Buffer.{EndsBy}
-use Rattle.rlc_am_tx.specs.Elements.{begins_past}
+use Rattle.rlc_am_tx.proofs.Nacks.{begins_is}
 use Rattle.rlc_am_tx.proofs.Nacks.{wrong_is}
 use Rattle.rlc_am_tx.proofs.beyond.is_wrong.Goals as goal
 
 pub returns-then-is_past : goal.returns-then-is_past
 returns-then-is_past c =
-    begins_past c.in-Some.first c.in-Some-part.start c.in-Some-part.last_place c.in-Some.ensures.some c.in-Some-part.is
+    begins_is c.args.size c.args.buffer.now c.args.ack c.args.nack.now c.in-Some.first c.in-Some-part.start c.in-Some-part.last_place c.in-Some.ensures.some c.in-Some-part.is
     (subst (EndsBy c.args.buffer.now c.in-Some.first) c.from.ensures c.if-is_past.ensures)
 
 pub returns-then-last_place : goal.returns-then-last_place

@@ -1,5 +1,8 @@
-use Rattle.rlc_law.proofs.Delivered.{completes_heard, heard_as_given, holds_heard, knows_heard_end}
+use Rattle.rlc_law.proofs.Delivered.{completes_heard, heard_as_given, holds_heard, knows_heard_end, hears_sent}
 use Rattle.rlc_law.proofs.hop_laws.what_is_complete_was_heard.Goals as goal
+
+pub returns-clause-sent : goal.returns-clause-sent
+returns-clause-sent c = hears_sent
 
 pub returns-clause-complete : goal.returns-clause-complete
 returns-clause-complete c = completes_heard

@@ -1,7 +1,8 @@
-use Rattle.std.proofs.Common.{arith}
+use Rattle.std.proofs.Common.{◌<◌, [], ◌∷◌, ◌++◌, length, arith}
+use Rattle.std.proofs.lemmas.List.{length_push}
 use Rattle.std.proofs.lemmas.Result.{err_from_is_err_and}
-use Rattle.rlc_status.specs.Format.IsFault.{of_header}
-use Rattle.rlc_status.proofs.Reading.{begins, goes_on, ends, trails, fails}
+use Rattle.rlc_status.specs.Format.IsStatusFault.{of_header}
+use Rattle.rlc_status.proofs.Reading.{begins, goes_on, ends, trails, fails, has_element}
 use Rattle.rlc_status.proofs.decoding.read_status.Goals as goal
 
 pub returns-in_err-ack-clause-fault : goal.returns-in_err-ack-clause-fault
@@ -26,3 +27,10 @@ returns-then-not-is_empty-clause-fault c = λ named. trails c.args.size c.in_ok-
 
 pub returns-clause-found : goal.returns-clause-found
 returns-clause-found c = ends c.args.size c.in_ok-ack.ack c.loop-more.nacks c.loop-more.rest.now c.args.bytes.now (rw c.loop-more-test.false at c.loop-more.invariant) (grind arith)
+
+pub returns-in_err-push-clause-memory : goal.returns-in_err-push-clause-memory
+returns-in_err-push-clause-memory c =
+    let nacks = c.loop-more.nacks ++ c.in_ok-nack.nack ∷ [] in
+    let some : 0 < length nacks = omega (arith, length_push c.loop-more.nacks c.in_ok-nack.nack) in
+    λ named. has_element c.args.size c.in_ok-ack.ack nacks c.in_ok-nack.e1 c.in_ok-nack.behind.now c.args.bytes.now some
+    (goes_on c.args.size c.in_ok-ack.ack c.loop-more.nacks c.in_ok-nack.nack c.in_ok-nack.e1 c.loop-more.rest.now c.in_ok-nack.behind.now c.args.bytes.now (rw c.loop-more-test.true at c.loop-more.invariant) c.in_ok-nack.ensures.found)

@@ -1,5 +1,5 @@
 use Rattle.std.proofs.Common.{◌≡◌, false}
-use Rattle.bearer_map.specs.Order.{has}
+use Rattle.bearer_map.specs.Order.{has_row}
 use Rattle.bearer_map.specs.Contents.{pair, map_rank}
 use Rattle.bearer_map.proofs.Kept.{absent}
 use Rattle.bearer_map.proofs.Ordered.{ascending_in_order}
@@ -7,7 +7,7 @@ use Rattle.bearer_map.proofs.tables.Tables.map.Goals as goal
 
 pub invariant_of-self-2 : goal.invariant_of-self-2
 invariant_of-self-2 c =
-    let new : has map_rank c.self.inside.maps.items (pair c.in_ok-remote.remote.0 c.in_ok-drb.drb.0) ≡ false = absent map_rank _ _ _ _ _ c.has_rank.ensures c.deref.ensures.value c.pair.ensures.value c.if-has_rank.false in
+    let new : has_row map_rank c.self.inside.maps.items (pair c.in_ok-remote.remote.0 c.in_ok-drb.drb.0) ≡ false = absent map_rank _ _ _ _ _ c.has_rank.ensures c.deref.ensures.value c.pair.ensures.value c.if-has_rank.false in
     record {
       are_remotes = c.self.invariant.are_remotes;
       are_bearers = c.self.invariant.are_bearers;

@@ -2,11 +2,11 @@ use Rattle.std.proofs.Common.{◌≡◌, ◌+◌, List, ℕ, true, length, sym, 
 use Rattle.std.proofs.lemmas.Result.{IfOk-weaker}
 use Rattle.link_base.specs.declared.names.SnSize.{SnSize}
 use Rattle.link_base.specs.declared.names.Way.TheVariants.{Dl}
-use Rattle.rlc_status.specs.Format.{StatusFits, bytes_of}
+use Rattle.rlc_status.specs.Format.{StatusFits, status_bytes}
 use Rattle.rlc_model.specs.declared.receiver.Made.{Made}
 use Rattle.rlc_model.specs.declared.receiver.Made.TheVariants.{Full}
 use Rattle.rlc_model.specs.Made.{Makes}
-use Rattle.rlc_am_rx.specs.Report.{IsReportOf}
+use Rattle.rlc_am_rx.specs.StatusMaking.{IsTrueStatusOf}
 use Rattle.script_text.specs.declared.reply.Reply.TheVariants.{Air}
 use Rattle.chain_model.specs.Chain.{Chain}
 use Rattle.chain_model.specs.Steps.{Granted, sent}
@@ -19,7 +19,7 @@ pub encode_status-requires : goal.encode_status-requires
 encode_status-requires c =
     let before : Chain = chain_of c.self.inside in
     let fits : Fits before = subst Fits (sym c.self.view_is) c.requires.fits in
-    let truth : IsReportOf before.rx c.args.n (Full c.in-Full.status c.in-Full.ack) = subst (λ (m : Made). IsReportOf before.rx c.args.n m) c.in-Full.is c.in_ok-need.ensures.truth in
+    let truth : IsTrueStatusOf before.rx c.args.n (Full c.in-Full.status c.in-Full.ack) = subst (λ (m : Made). IsTrueStatusOf before.rx c.args.n m) c.in-Full.is c.in_ok-need.ensures.truth in
     subst (λ (z : SnSize). StatusFits z c.in-Full.status) (rx_size before fits ∙ sym c.direct_size.ensures) truth.1
 
 pub returns-in_ok-bytes-in-Full : goal.returns-in_ok-bytes-in-Full
@@ -27,7 +27,7 @@ returns-in_ok-bytes-in-Full c =
     let before : Chain = chain_of c.self.inside in
     let fits : Fits before = subst Fits (sym c.self.view_is) c.requires.fits in
     let makes : Makes before.rx c.args.n (Full c.in-Full.status c.in-Full.ack) c.make_status.new.self = subst (λ (m : Made). Makes before.rx c.args.n m c.make_status.new.self) c.in-Full.is c.in_ok-need.ensures.ok in
-    let bytes : c.in_ok-bytes-in-Full.bytes ≡ bytes_of before.rx.size c.in-Full.status = c.in_ok-bytes-in-Full.ensures.bytes ∙ ap (λ (z : SnSize). bytes_of z c.in-Full.status) (c.direct_size.ensures ∙ sym (rx_size before fits)) in
+    let bytes : c.in_ok-bytes-in-Full.bytes ≡ status_bytes before.rx.size c.in-Full.status = c.in_ok-bytes-in-Full.ensures.bytes ∙ ap (λ (z : SnSize). status_bytes z c.in-Full.status) (c.direct_size.ensures ∙ sym (rx_size before fits)) in
     IfOk-weaker c.put.result _ (λ reply. Granted Dl c.args.self.now c.args.port c.args.n reply c.put.new.self)
     (λ reply said.
     subst (λ (o : Chain). Granted Dl o c.args.port c.args.n reply c.put.new.self) c.self.view_is

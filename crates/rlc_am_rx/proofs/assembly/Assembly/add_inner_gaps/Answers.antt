@@ -1,80 +1,52 @@
-use Rattle.std.proofs.Common.{◌∙◌, ◌<◌, ◌≤◌, inl, inr, ℕ, false, get_or, ap, arith}
+use Rattle.std.proofs.Common.{◌≡◌, ◌<◌, ◌-◌, inl, inr, ℕ, sym, ◌∙◌, ap, arith}
 use Rattle.std.proofs.lemmas.Bool.{both_ways, cases_lt}
-use Rattle.rlc_am_rx.specs.Places.{Lacks, Holds}
-use Rattle.rlc_am_rx.proofs.Held.{seen_is, some_here, none_here, end_short, found_before}
-use Rattle.rlc_am_rx.proofs.Writing.{gaps_begin, gaps_on, gaps_inner}
+use Rattle.byte_spans.specs.Spans.{has, Has}
+use Rattle.rlc_am_rx.specs.Assembly.{got_of_pieces}
+use Rattle.rlc_am_rx.proofs.Held.{seen_is, some_here, none_here, end_short}
+use Rattle.rlc_am_rx.proofs.Writing.{gaps_so_far, gaps_on, gaps_inner}
 use Rattle.rlc_am_rx.proofs.assembly.Assembly.add_inner_gaps.Goals as goal
 
-pub overflow_cast-to : goal.overflow_cast-to
-overflow_cast-to c =
+pub overflow_cast-stop : goal.overflow_cast-stop
+overflow_cast-stop c =
     let a = c.self.inside in
-    let i = c.self.invariant in
-    omega (
-      arith,
-      c.first_held-to.ensures.within,
-      end_short c.args.self.now.got a.bytes.items a.held.items
-          (seen_is a c.args.self.now i c.self.view_is) a.end i.last c.requires.fit.small,
-    )
+    omega (arith, c.in-Some.ensures.gap.within, end_short (got_of_pieces c.args.self.now) a.bytes.items a.held (seen_is a c.args.self.now c.self.view_is) c.end-end.result c.end-end.ensures c.requires.small)
 
 pub gap-requires : goal.gap-requires
 gap-requires c =
     let a = c.self.inside in
-    let i = c.self.invariant in
-    omega (
-      arith,
-      c.loop-from-test.true,
-      end_short c.args.self.now.got a.bytes.items a.held.items
-          (seen_is a c.args.self.now i c.self.view_is) a.end i.last c.requires.fit.small,
-    )
+    omega (arith, c.in-Some.ensures.gap.some, c.in-Some.ensures.gap.within, end_short (got_of_pieces c.args.self.now) a.bytes.items a.held (seen_is a c.args.self.now c.self.view_is) c.end-end.result c.end-end.ensures c.requires.small)
 
-pub loop-from-init : goal.loop-from-init
-loop-from-init c =
+pub loop-start-preserved : goal.loop-start-preserved
+loop-start-preserved c =
     let a = c.self.inside in
-    let i = c.self.invariant in
-    record {
-      within = i.front;
-      missing = i.gap;
-      so_far = gaps_begin c.args.sn c.args.self.now.got a.front c.args.nacks.now.items
-          (λ q lt. some_here c.args.self.now.got a.bytes.items a.held.items (seen_is a c.args.self.now i c.self.view_is) q
-          (i.below q (omega arith) lt));
-    }
-
-pub loop-from-preserved : goal.loop-from-preserved
-loop-from-preserved c =
-    let a = c.self.inside in
-    let i = c.self.invariant in
-    let g = c.args.self.now.got in
-    let from = c.loop-from.from in
-    let to = c.first_held-to.result in
-    let next = c.first_missing-from.result in
-    let seen = seen_is a c.args.self.now i c.self.view_is in
-    let lacks : (p : ℕ) → from ≤ p → p < to → Lacks a.held.items p = rw (← c.deref.ensures.value) c.first_held-to.ensures.before in
-    let holds : to < a.end → Holds a.held.items to = rw (← c.deref.ensures.value) c.first_held-to.ensures.found in
-    let found : to < a.end = found_before a.held.items from to a.end c.loop-from-test.true i.last lacks in
-    let all : (p : ℕ) → to ≤ p → p < next → Holds a.held.items p = rw
-    (← c.deref-in-loop-from.ensures.value) c.first_missing-from.ensures.before in
-    let later : from < to = elim (cases_lt from to) [
+    let g = got_of_pieces c.args.self.now in
+    let seen = seen_is a c.args.self.now c.self.view_is in
+    let i = c.loop-start.invariant in
+    let gap = c.in-Some.ensures.gap in
+    let stop = c.in-Some.stop in
+    let inner : stop < c.end-end.result = elim (cases_lt stop c.end-end.result) [
       | inl lt ↦ lt
-      | inr ge ↦ absurd (both_ways (get_or a.held.items from false) (c.loop-from.invariant.missing c.loop-from-test.true)
-          (ap (λ (p : ℕ). get_or a.held.items p false) (omega (arith, ge, c.first_held-to.ensures.after)) ∙ holds found))
+      | inr ge ↦ absurd (both_ways (has a.held (stop - 1)) (gap.gap (stop - 1) (omega (arith, gap.some)) (omega (arith, gap.some)))
+          (ap (λ (p : ℕ). has a.held p) (omega (arith, ge, gap.within)) ∙ c.end-end.ensures.last (omega (arith, gap.some, gap.within))))
     ] in
     record {
-      within = c.first_missing-from.ensures.within;
-      missing = rw (← c.deref-in-loop-from.ensures.value) c.first_missing-from.ensures.found;
-      so_far = gaps_on c.args.sn g from to next c.args.nacks.now.items c.loop-from.nacks.items c.push.new.self.items later c.first_missing-from.ensures.after
-          (λ q ge lt. none_here g a.bytes.items a.held.items seen q (lacks q ge lt))
-          (some_here g a.bytes.items a.held.items seen to (holds found))
-          (λ q ge lt. some_here g a.bytes.items a.held.items seen q (all q ge lt))
-          (rw (← c.gap.ensures) c.in_ok-push.ensures.items) c.loop-from.invariant.so_far;
+      within = gap.within;
+      so_far = gaps_on c.args.sn g c.in-Some.start stop c.args.nacks.now.items c.loop-start.nacks.items c.push.new.self.items gap.some
+          (λ q ge lt. none_here g a.bytes.items a.held seen q (gap.gap q ge lt))
+          (some_here g a.bytes.items a.held seen stop (gap.stops inner))
+          (rw (← c.gap.ensures) c.in_ok-push.ensures.items)
+          (gaps_so_far c.args.sn g c.loop-start.from c.in-Some.start c.args.nacks.now.items c.loop-start.nacks.items gap.after
+          (λ q ge lt. some_here g a.bytes.items a.held seen q (gap.before q ge lt)) i.so_far);
     }
 
 pub returns : goal.returns
 returns c =
     let a = c.self.inside in
-    let i = c.self.invariant in
-    let g = c.args.self.now.got in
-    let seen = seen_is a c.args.self.now i c.self.view_is in
-    gaps_inner c.args.sn g c.loop-from.from a.end c.args.nacks.now.items c.loop-from.nacks.items
-    (omega (arith, c.loop-from.invariant.within, c.loop-from-test.false))
-    (λ p ge. none_here g a.bytes.items a.held.items seen p (i.above p ge))
-    (end_short g a.bytes.items a.held.items seen a.end i.last c.requires.fit.small) c.loop-from.invariant.so_far
+    let g = got_of_pieces c.args.self.now in
+    let seen = seen_is a c.args.self.now c.self.view_is in
+    let i = c.loop-start.invariant in
+    gaps_inner c.args.sn g c.end-end.result c.args.nacks.now.items c.loop-start.nacks.items
+    (λ p ge. none_here g a.bytes.items a.held seen p (c.end-end.ensures.above p ge))
+    (end_short g a.bytes.items a.held seen c.end-end.result c.end-end.ensures c.requires.small)
+    (gaps_so_far c.args.sn g c.loop-start.from c.end-end.result c.args.nacks.now.items c.loop-start.nacks.items i.within
+    (λ q ge lt. some_here g a.bytes.items a.held seen q (c.in_default.ensures.none q ge lt)) i.so_far)

@@ -1,14 +1,13 @@
-use Rattle.std.proofs.Common.{◌≤◌, ◌<◌, ◌-◌}
-use Rattle.rlc_am_rx.specs.Places.{Lacks}
+use Rattle.std.proofs.Common.{◌≤◌, ◌-◌}
+use Rattle.rlc_am_rx.specs.Assembly.{got_of_pieces}
 use Rattle.rlc_am_rx.proofs.Writing.{GapsSoFar}
 use Rattle.rlc_am_rx.proofs.assembly.Assembly.add_inner_gaps.Given as goal
 
-abbrev pub invariant-loop-from : goal.invariant-loop-from
-invariant-loop-from l = record {
-  within : l.from ≤ l.self-inside.end;
-  missing : l.from < l.self-inside.end → Lacks l.self-inside.held.items l.from;
-  so_far : GapsSoFar l.sn l.self.got l.from l.initial.nacks.items l.nacks.items;
+abbrev pub invariant-loop-start : goal.invariant-loop-start
+invariant-loop-start l = record {
+  within : l.from ≤ l.end;
+  so_far : GapsSoFar l.sn (got_of_pieces l.self) l.from l.initial.nacks.items l.nacks.items;
 }
 
-abbrev pub decreases-loop-from : goal.decreases-loop-from
-decreases-loop-from l = l.self-inside.end - l.from
+abbrev pub decreases-loop-start : goal.decreases-loop-start
+decreases-loop-start l = l.end - l.from

@@ -1,4 +1,5 @@
 use Rattle.rlc_am_rx.proofs.Hearing.{hears_if_placed}
+use Rattle.rlc_am_rx.proofs.Placed.{on_err}
 use Rattle.rlc_am_rx.proofs.receiver.AmRx.hear.Goals as goal
 
 pub returns-then-conflicts-clause-ok : goal.returns-then-conflicts-clause-ok
@@ -12,3 +13,11 @@ pub returns-clause-ok : goal.returns-clause-ok
 returns-clause-ok c =
     hears_if_placed c.args.self.now c.args.pdu.now c.in-Some.number _ _ (rw (← c.size.ensures, ← c.next.ensures) c.in-Some.ensures.near)
     c.if-is_repeat.ensures c.if-conflicts.ensures c.place.ensures.ok
+
+pub returns-clause-memory : goal.returns-clause-memory
+returns-clause-memory c = on_err c.place.result _ (record {
+  number = c.in-Some.number;
+  near = rw (← c.size.ensures, ← c.next.ensures) c.in-Some.ensures.near;
+  news = c.if-is_repeat.ensures;
+  agrees = c.if-conflicts.ensures;
+})

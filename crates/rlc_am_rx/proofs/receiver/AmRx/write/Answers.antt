@@ -11,8 +11,8 @@ loop-number-init c = record {
   writes = λ rest a w. rw (c.new-nacks.ensures.items, ← c.next-number.ensures) w;
 }
 
-pub returns-in_default : goal.returns-in_default
-returns-in_default c =
+pub returns-in_default-clause-ok : goal.returns-in_default-clause-ok
+returns-in_default-clause-ok c =
     let r = c.args.self.now in
     let g = c.in_ok-end.ensures in
     let old = c.loop-number.nacks.items in
@@ -20,7 +20,7 @@ returns-in_default c =
     let added = added_behind c.add_group.new.nacks.items old g.added c.deref.result.now c.len-len.result g.adds same c.deref.ensures.value in
     rw (c.from_vec.ensures, c.truncate.ensures.items, added_before c.add_group.new.nacks.items old g.added c.len-len.result g.adds same)
     (writes_stop r _ c.args.octets c.loop-number.left c.loop-number.number c.in_ok-end.end old g.added g.group
-    (omega (arith, c.loop-number-test.true, c.highest_status.ensures), c.loop-number.invariant.open_number)
+    (omega (arith, c.loop-number-test.true, c.highest_status.ensures.value), c.loop-number.invariant.open_number)
     (rw (← added, ← c.size.ensures) c.in_default.ensures.none) c.loop-number.invariant.writes)
 
 pub loop-number-preserved : goal.loop-number-preserved
@@ -36,12 +36,12 @@ loop-number-preserved c =
       from = omega (arith, i.from, g.on, first.from);
       open_number = first.has;
       writes = writes_on r (rx_next r) c.args.octets c.loop-number.left c.in-Some.rest c.loop-number.number c.in_ok-end.end c.first_open-number.result old c.add_group.new.nacks.items g.added (omega (arith, g.on)) g.group
-          (omega (arith, c.loop-number-test.true, c.highest_status.ensures), i.open_number)
+          (omega (arith, c.loop-number-test.true, c.highest_status.ensures.value), i.open_number)
           (rw (← added, ← c.size.ensures) c.in-Some.ensures.some) first.from
           (λ n ge lt missing. first.none n ge lt missing.1) g.adds i.writes;
     }
 
-pub returns : goal.returns
-returns c = rw (c.from_vec-2.ensures, c.highest_status-2.ensures)
+pub returns-clause-ok : goal.returns-clause-ok
+returns-clause-ok c = rw (c.from_vec-2.ensures, c.highest_status-2.ensures.value)
     (writes_end c.args.self.now _ c.args.octets c.loop-number.left c.loop-number.number c.loop-number.nacks.items
-    (omega (arith, c.loop-number-test.false, c.highest_status.ensures)) c.loop-number.invariant.writes)
+    (omega (arith, c.loop-number-test.false, c.highest_status.ensures.value)) c.loop-number.invariant.writes)

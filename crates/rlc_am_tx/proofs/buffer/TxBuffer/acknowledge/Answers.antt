@@ -1,159 +1,129 @@
-use Rattle.std.proofs.Common.{◌≡◌, inl, inr, ℕ, ◌+◌, ◌-◌, ◌<◌, ◌≤◌, ◌^◌, true, false, List, Option, length, sym, ◌∙◌, ap, subst, arith}
+use Rattle.std.proofs.Common.{◌≡◌, inl, inr, ℕ, ◌+◌, ◌-◌, ◌<◌, ◌≤◌, true, false, List, length, replicate, Option, None, sym, ◌∙◌, ap, subst, arith, length-append}
 use Rattle.std.specs.List.{prefix_len}
 use Rattle.std.specs.Option.{is_none}
 use Rattle.std.specs.Ordering.{nat_cmp}
 use Rattle.std.specs.BTreeSet.{contains}
 use Rattle.std.proofs.lemmas.Bool.{cases_lt}
 use Rattle.rlc_status.specs.Says.{Some_has, NamesNumber}
-use Rattle.link_base.specs.declared.rlc_words.Tag.{Tag}
-use Rattle.rlc_model.specs.Tx.{Kept, is_unsent}
-use Rattle.rlc_am_tx.specs.declared.elements.Mention.{Mention}
-use Rattle.rlc_am_tx.specs.Acknowledging.{UpdatesList}
-use Rattle.rlc_am_tx.specs.Buffer.{at, kept_from}
-use Rattle.rlc_am_tx.specs.Elements.{MentionsAll}
-use Rattle.rlc_am_tx.specs.Flags.{is_set, increments, retx_of}
+use Rattle.rlc_model.specs.Tx.{Kept, at, is_unsent}
+use Rattle.rlc_model.specs.Calls.{Grows, wakes}
+use Rattle.rlc_am_tx.specs.Acknowledging.{UpdatesAll}
+use Rattle.rlc_am_tx.specs.Buffer.{kept_from, IsInOrder}
 use Rattle.rlc_am_tx.specs.Inside.{IsTidy}
-use Rattle.rlc_am_tx.proofs.Acked.{Steps, pop_list, acked_keeps, keeps_counts}
-use Rattle.rlc_am_tx.proofs.Numbers.{kept_front, kept_slot}
-use Rattle.rlc_am_tx.proofs.Updated.{names_below, place_index, pends_retx, confirmed_retx, acked_tidy, updates_list, tags_counted}
+use Rattle.rlc_am_tx.proofs.Acked.{settled_tidy, unsettled_tidy, counted_tags, pop_list, was_idle, tags_or, more_acked}
+use Rattle.rlc_am_tx.proofs.Numbers.{kept_front, kept_long}
+use Rattle.rlc_am_tx.proofs.Planned.{grows_more}
+use Rattle.rlc_am_tx.proofs.Settled.{updates}
 use Rattle.rlc_am_tx.proofs.buffer.TxBuffer.acknowledge.Goals as goal
 
-pub overflow_sub-count : goal.overflow_sub-count
-overflow_sub-count c = omega (arith, kept_front c.self.inside.next_ack c.self.inside.slots.items c.self.invariant.front, ap (prefix_len is_none) c.self.view_is, c.requires.from)
+-- no SDU
+abbrev not_kept : Option Kept
+not_kept = None
 
-pub pend_all-requires-clause-within : goal.pend_all-requires-clause-within
-pend_all-requires-clause-within c i h =
+pub overflow_sub-count : goal.overflow_sub-count
+overflow_sub-count c = omega (arith, kept_front c.self.inside.next_ack c.self.inside.kept_sdus.items c.self.invariant.tidy.front, ap (prefix_len is_none) c.self.view_is, c.requires.from)
+
+pub plan-requires-clause-base : goal.plan-requires-clause-base
+plan-requires-clause-base c = omega (arith, kept_front c.self.inside.next_ack c.self.inside.kept_sdus.items c.self.invariant.tidy.front, ap (prefix_len is_none) c.self.view_is, c.requires.from)
+
+pub plan-requires-clause-kept_sdus : goal.plan-requires-clause-kept_sdus
+plan-requires-clause-kept_sdus c = omega (arith, kept_long c.self.inside.next_ack c.self.inside.kept_sdus.items, ap length c.self.view_is, c.requires.within)
+
+pub plan-requires-clause-names : goal.plan-requires-clause-names
+plan-requires-clause-names c = omega (arith, kept_long c.self.inside.next_ack c.self.inside.kept_sdus.items, ap length c.self.view_is, c.requires.within, c.self.invariant.room)
+
+pub plan-requires-clause-small : goal.plan-requires-clause-small
+plan-requires-clause-small c = omega (arith, kept_long c.self.inside.next_ack c.self.inside.kept_sdus.items, ap length c.self.view_is, c.requires.within, c.self.invariant.tidy.small)
+
+pub plan-requires-clause-forgotten : goal.plan-requires-clause-forgotten
+plan-requires-clause-forgotten c = c.self.invariant.names
+
+pub plan-requires-clause-no_tags : goal.plan-requires-clause-no_tags
+plan-requires-clause-no_tags c = c.new-told.ensures.tags
+
+pub plan-requires-clause-no_marks : goal.plan-requires-clause-no_marks
+plan-requires-clause-no_marks c = c.new-told.ensures.marks
+
+pub plan-requires-clause-fits : goal.plan-requires-clause-fits
+plan-requires-clause-fits c = c.requires.fits
+
+pub plan-requires-clause-below : goal.plan-requires-clause-below
+plan-requires-clause-below c = c.requires.below
+
+pub invariant_of-self : goal.invariant_of-self
+invariant_of-self c =
     let a = c.self.inside in
     let base = a.next_ack in
-    let ack = c.args.ack in
-    let size = c.args.size in
-    let nacks = c.args.nacks.now in
-    let ms = c.deref.result.now in
-    let waits : ℕ → Type 0 = λ n. contains nat_cmp c.mention_all.new.waiting n ≡ true in
-    let from : base ≤ ack = omega (arith, kept_front base a.slots.items c.self.invariant.front, ap (prefix_len is_none) c.self.view_is, c.requires.from) in
-    let mentions : MentionsAll size ack base nacks ms waits = subst (λ (x : List Mention). MentionsAll size ack base nacks x waits) (sym c.deref.ensures.value) c.in_ok-mention_all.ensures.ok in
-    omega (arith, c.as_mut_slice-named.ensures.len, c.in_ok-named_flags.ensures.len, names_below size ack (base + i) nacks c.requires.below ((mentions.numbers i).0 h))
+    let names = c.plan.new.names.items in
+    record {
+      tidy = unsettled_tidy base (c.args.ack - base) a.kept_sdus.items names a.unconfirmed a.unsent (λ n. contains nat_cmp a.waiting n ≡ true) (λ n. contains nat_cmp c.plan.new.waiting n ≡ true) (λ n. contains nat_cmp c.leave_all.new.waiting n ≡ true) c.self.invariant.tidy c.in-Err.ensures.kept c.in-Err.ensures.only c.leave_all.ensures;
+      names = λ i. elim (cases_lt i (c.args.ack - base)) [ inl lt ↦ c.forget_all.ensures.first i lt | inr ge ↦ c.forget_all.ensures.rest i ge ∙ c.in-Err.ensures.rest i (omega (arith, ge)) ];
+      room = omega (arith, c.forget_all.ensures.long, c.in-Err.ensures.long, c.self.invariant.room);
+    }
 
-pub count_named-requires-clause-counts : goal.count_named-requires-clause-counts
-count_named-requires-clause-counts c i =
-    let a = c.self.inside in
-    let named = c.pend_all.new.named in
-    let back : a.next_ack + i - a.next_ack ≡ i = omega arith in
-    let here : at c.args.self.now (a.next_ack + i) ≡ at a.slots.items i = ap (λ (l : List (Option Kept)). at l (a.next_ack + i)) (sym c.self.view_is) ∙ kept_slot a.next_ack a.slots.items (a.next_ack + i) (omega arith) ∙ ap (at a.slots.items) back in
-    let few : increments (retx_of (at a.slots.items i)) < 2 ^ 64 = subst (λ (o : Option Kept). increments (retx_of o) < 2 ^ 64) here (c.requires.counts (a.next_ack + i)) in
-    let one = ap increments (pends_retx _ (at a.slots.items i) _ (at c.pend_all.new.slots.items i) (c.pend_all.ensures.each i)) in
-    elim (cases_lt i (length named)) [
-      | inl lt ↦ omega (arith, few, one, confirmed_retx (is_set named i) (at c.pend_all.new.slots.items i), ap (λ (o : Option Kept). increments (retx_of o)) (c.confirm_unnamed.ensures.each i lt))
-      | inr ge ↦ omega (arith, few, one, ap (λ (o : Option Kept). increments (retx_of o)) (c.confirm_unnamed.ensures.rest i ge))
-    ]
+pub returns-in-Err-clause-memory : goal.returns-in-Err-clause-memory
+returns-in-Err-clause-memory c = elim c.in-Err.ensures.err [
+  | inl may ↦ let w = c.may_wake-may_wake.ensures.0 may in wakes w.0 w.1.pending w.1.unsent w.1.some
+  | inr grows ↦ subst (λ (l : List (Option Kept)). Grows c.args.size c.args.threshold c.args.poll_owed l c.args.status.now c.args.ack) c.self.view_is (grows_more c.args.size c.args.threshold c.args.poll_owed (kept_from c.self.inside.next_ack c.self.inside.kept_sdus.items) c.args.status.now c.args.ack grows)
+]
 
 pub overflow_sub-self : goal.overflow_sub-self
 overflow_sub-self c =
+    let from : c.self.inside.next_ack ≤ c.args.ack = omega (arith, kept_front c.self.inside.next_ack c.self.inside.kept_sdus.items c.self.invariant.tidy.front, ap (prefix_len is_none) c.self.view_is, c.requires.from) in
+    let enough : c.args.ack ≤ c.self.inside.next_ack + length c.plan.new.names.items = omega (arith, kept_long c.self.inside.next_ack c.self.inside.kept_sdus.items, ap length c.self.view_is, c.requires.within, c.self.invariant.room, c.in_default.ensures.long) in
     let a = c.self.inside in
-    let base = a.next_ack in
-    let ack = c.args.ack in
-    let size = c.args.size in
-    let nacks = c.args.nacks.now in
-    let ms = c.deref.result.now in
-    let waits : ℕ → Type 0 = λ n. contains nat_cmp c.mention_all.new.waiting n ≡ true in
-    let from : base ≤ ack = omega (arith, kept_front base a.slots.items c.self.invariant.front, ap (prefix_len is_none) c.self.view_is, c.requires.from) in
-    let mentions : MentionsAll size ack base nacks ms waits = subst (λ (x : List Mention). MentionsAll size ack base nacks x waits) (sym c.deref.ensures.value) c.in_ok-mention_all.ensures.ok in
-    let s : Steps size c.args.threshold ack base nacks ms waits a.slots.items c.pend_all.new.slots.items c.confirm_unnamed.new.slots.items c.count_named.new.slots.items c.pend_all.new.named c.pend_all.new.fresh c.confirm_unnamed.new.tags.items c.count_named.new.marks.items = record {
-      from = from;
-      len = omega (arith, c.as_mut_slice-named.ensures.len, c.in_ok-named_flags.ensures.len);
-      mentions = mentions;
-      within = λ i h. omega (arith, names_below size ack (base + i) nacks c.requires.below ((mentions.numbers i).0 h));
-      places = place_index ms;
-      pends = c.pend_all.ensures.each;
-      names = c.pend_all.ensures.named;
-      confirms = c.confirm_unnamed.ensures.each;
-      confirms_rest = c.confirm_unnamed.ensures.rest;
-      counts = c.count_named.ensures.each;
-      counts_rest = c.count_named.ensures.rest;
-      long1 = c.pend_all.ensures.long;
-      long2 = c.confirm_unnamed.ensures.long;
-      long3 = c.count_named.ensures.long;
-      tags_are = c.confirm_unnamed.ensures.tags;
-      marks_are = c.count_named.ensures.marks;
-    } in
-    omega (arith, tags_counted size c.args.threshold ack base nacks ms waits a.slots.items c.pend_all.new.slots.items c.confirm_unnamed.new.slots.items c.count_named.new.slots.items c.pend_all.new.named c.pend_all.new.fresh c.confirm_unnamed.new.tags.items c.count_named.new.marks.items s, c.self.invariant.count)
-
--- what marking, confirming and counting did to the slots
-steps : (c : goal.After-drop-mentions-2) → Steps c.args.size c.args.threshold c.args.ack c.self.inside.next_ack c.args.nacks.now c.deref.result.now (λ n. contains nat_cmp c.mention_all.new.waiting n ≡ true) c.self.inside.slots.items c.pend_all.new.slots.items c.confirm_unnamed.new.slots.items c.count_named.new.slots.items c.pend_all.new.named c.pend_all.new.fresh c.confirm_unnamed.new.tags.items c.count_named.new.marks.items
-steps c =
-    let a = c.self.inside in
-    let base = a.next_ack in
-    let ack = c.args.ack in
-    let size = c.args.size in
-    let nacks = c.args.nacks.now in
-    let ms = c.deref.result.now in
-    let waits : ℕ → Type 0 = λ n. contains nat_cmp c.mention_all.new.waiting n ≡ true in
-    let from : base ≤ ack = omega (arith, kept_front base a.slots.items c.self.invariant.front, ap (prefix_len is_none) c.self.view_is, c.requires.from) in
-    let mentions : MentionsAll size ack base nacks ms waits = subst (λ (x : List Mention). MentionsAll size ack base nacks x waits) (sym c.deref.ensures.value) c.in_ok-mention_all.ensures.ok in
-    record {
-      from = from;
-      len = omega (arith, c.as_mut_slice-named.ensures.len, c.in_ok-named_flags.ensures.len);
-      mentions = mentions;
-      within = λ i h. omega (arith, names_below size ack (base + i) nacks c.requires.below ((mentions.numbers i).0 h));
-      places = place_index ms;
-      pends = c.pend_all.ensures.each;
-      names = c.pend_all.ensures.named;
-      confirms = c.confirm_unnamed.ensures.each;
-      confirms_rest = c.confirm_unnamed.ensures.rest;
-      counts = c.count_named.ensures.each;
-      counts_rest = c.count_named.ensures.rest;
-      long1 = c.pend_all.ensures.long;
-      long2 = c.confirm_unnamed.ensures.long;
-      long3 = c.count_named.ensures.long;
-      tags_are = c.confirm_unnamed.ensures.tags;
-      marks_are = c.count_named.ensures.marks;
-    }
+    let plan = c.in_default.ensures.ok in
+    omega (arith, c.len.ensures, counted_tags a.next_ack a.kept_sdus.items c.args.size c.args.ack c.args.threshold c.args.status.now c.plan.new.names.items c.plan.new.told.tags.items c.plan.new.told.marks.items plan c.settle_all.new.kept_sdus.items from enough c.settle_all.ensures.each c.settle_all.ensures.rest c.settle_all.ensures.long a.unconfirmed a.unsent (λ n. contains nat_cmp a.waiting n ≡ true) (λ n. contains nat_cmp c.plan.new.waiting n ≡ true) (λ n. contains nat_cmp c.leave_all-2.new.waiting n ≡ true) c.self.invariant.tidy c.in_default.ensures.enters c.in_default.ensures.kept c.in_default.ensures.only c.leave_all-2.ensures)
 
 pub invariant_of-self-2 : goal.invariant_of-self-2
 invariant_of-self-2 c =
+    let from : c.self.inside.next_ack ≤ c.args.ack = omega (arith, kept_front c.self.inside.next_ack c.self.inside.kept_sdus.items c.self.invariant.tidy.front, ap (prefix_len is_none) c.self.view_is, c.requires.from) in
+    let enough : c.args.ack ≤ c.self.inside.next_ack + length c.plan.new.names.items = omega (arith, kept_long c.self.inside.next_ack c.self.inside.kept_sdus.items, ap length c.self.view_is, c.requires.within, c.self.invariant.room, c.in_default.ensures.long) in
     let a = c.self.inside in
     let base = a.next_ack in
-    let ack = c.args.ack in
-    let size = c.args.size in
-    let nacks = c.args.nacks.now in
-    let ms = c.deref.result.now in
-    let waits : ℕ → Type 0 = λ n. contains nat_cmp c.mention_all.new.waiting n ≡ true in
-    let s = steps c in
-    let sent : (n : ℕ) → n < ack → (Some_has (λ e. NamesNumber size ack e n) nacks → ⊥) → is_unsent (at (kept_from base a.slots.items) n) ≡ false = λ n lt none. ap (λ (l : List (Option Kept)). is_unsent (at l n)) c.self.view_is ∙ c.requires.sent n lt none in
-    let tidy = acked_tidy size c.args.threshold ack base nacks ms waits a.slots.items c.pend_all.new.slots.items c.confirm_unnamed.new.slots.items c.count_named.new.slots.items c.pend_all.new.named c.pend_all.new.fresh c.confirm_unnamed.new.tags.items c.count_named.new.marks.items s a.unconfirmed a.unsent (λ n. contains nat_cmp a.waiting n ≡ true) c.in_ok-mention_all.ensures.kept c.self.invariant sent c.pop_confirmed.result c.pop_confirmed.new.slots.items c.pop_confirmed.ensures.kept c.pop_confirmed.ensures.front in
-    let few : c.len.result ≡ length c.confirm_unnamed.new.tags.items = omega arith in
-    subst (λ m. IsTidy (base + c.pop_confirmed.result) c.pop_confirmed.new.slots.items (a.unconfirmed - m) a.unsent waits) (sym few) tidy
-
-pub returns-clause-counts : goal.returns-clause-counts
-returns-clause-counts c =
-    let a = c.self.inside in
-    let base = a.next_ack in
-    let ack = c.args.ack in
-    let size = c.args.size in
-    let nacks = c.args.nacks.now in
-    let ms = c.deref.result.now in
-    let waits : ℕ → Type 0 = λ n. contains nat_cmp c.mention_all.new.waiting n ≡ true in
-    let s = steps c in
-    let sent : (n : ℕ) → n < ack → (Some_has (λ e. NamesNumber size ack e n) nacks → ⊥) → is_unsent (at (kept_from base a.slots.items) n) ≡ false = λ n lt none. ap (λ (l : List (Option Kept)). is_unsent (at l n)) c.self.view_is ∙ c.requires.sent n lt none in
-    let popped = pop_list base c.pop_confirmed.result c.count_named.new.slots.items c.pop_confirmed.new.slots.items c.pop_confirmed.ensures.kept in
-    λ n.
-    let keeps = keeps_counts (at (kept_from base a.slots.items) n) (at (kept_from base c.count_named.new.slots.items) n) (acked_keeps size c.args.threshold ack base nacks ms waits a.slots.items c.pend_all.new.slots.items c.confirm_unnamed.new.slots.items c.count_named.new.slots.items c.pend_all.new.named c.pend_all.new.fresh c.confirm_unnamed.new.tags.items c.count_named.new.marks.items s sent n) in
-    let new = ap (λ (l : List (Option Kept)). increments (retx_of (at l n))) popped in
-    let old = ap (λ (l : List (Option Kept)). increments (retx_of (at l n))) c.self.view_is in
-    omega (arith, keeps, new, old)
+    let few : c.len.result ≡ length c.plan.new.told.tags.items = omega (arith, c.len.ensures) in
+    let sent : (n : ℕ) → n < c.args.ack → (Some_has (λ e. NamesNumber c.args.size c.args.ack e n) c.args.status.now.nacks → ⊥) → is_unsent (at (kept_from base a.kept_sdus.items) n) ≡ false = λ n lt none. ap (λ (l : List (Option Kept)). is_unsent (at l n)) c.self.view_is ∙ c.requires.sent n lt none in
+    let waits : ℕ → Type 0 = λ n. contains nat_cmp c.leave_all-2.new.waiting n ≡ true in
+    let tidy = settled_tidy base a.kept_sdus.items c.args.size c.args.ack c.args.threshold c.args.status.now c.plan.new.names.items c.plan.new.told.tags.items c.plan.new.told.marks.items c.in_default.ensures.ok c.settle_all.new.kept_sdus.items from enough c.settle_all.ensures.each c.settle_all.ensures.rest c.settle_all.ensures.long a.unconfirmed a.unsent (λ n. contains nat_cmp a.waiting n ≡ true) (λ n. contains nat_cmp c.plan.new.waiting n ≡ true) waits c.self.invariant.tidy c.in_default.ensures.enters c.in_default.ensures.kept c.in_default.ensures.only c.leave_all-2.ensures sent c.pop_confirmed.result c.pop_confirmed.new.kept_sdus.items c.pop_confirmed.ensures.kept c.pop_confirmed.ensures.front in
+    record {
+      tidy = subst (λ m. IsTidy (base + c.pop_confirmed.result) c.pop_confirmed.new.kept_sdus.items (a.unconfirmed - m) a.unsent waits) (sym few) tidy;
+      names = λ i. elim (cases_lt i (c.args.ack - base)) [ inl lt ↦ c.settle_all.ensures.forgotten i lt | inr ge ↦ c.settle_all.ensures.others i ge ∙ c.in_default.ensures.rest i (omega (arith, ge)) ];
+      room = omega (arith, c.settle_all.ensures.same, c.settle_all.ensures.long, c.in_default.ensures.long, c.self.invariant.room, ap length c.pop_confirmed.ensures.kept, length-append (replicate c.pop_confirmed.result not_kept) c.pop_confirmed.new.kept_sdus.items);
+    }
 
 pub returns-clause-ok : goal.returns-clause-ok
 returns-clause-ok c =
+    let from : c.self.inside.next_ack ≤ c.args.ack = omega (arith, kept_front c.self.inside.next_ack c.self.inside.kept_sdus.items c.self.invariant.tidy.front, ap (prefix_len is_none) c.self.view_is, c.requires.from) in
+    let enough : c.args.ack ≤ c.self.inside.next_ack + length c.plan.new.names.items = omega (arith, kept_long c.self.inside.next_ack c.self.inside.kept_sdus.items, ap length c.self.view_is, c.requires.within, c.self.invariant.room, c.in_default.ensures.long) in
     let a = c.self.inside in
-    let base = a.next_ack in
-    let ack = c.args.ack in
-    let size = c.args.size in
-    let nacks = c.args.nacks.now in
-    let ms = c.deref.result.now in
-    let waits : ℕ → Type 0 = λ n. contains nat_cmp c.mention_all.new.waiting n ≡ true in
-    let s = steps c in
-    let popped = pop_list base c.pop_confirmed.result c.count_named.new.slots.items c.pop_confirmed.new.slots.items c.pop_confirmed.ensures.kept in
-    λ t st size_is threshold_is kept_is nacks_is.
-    let updates = updates_list size c.args.threshold ack base nacks ms waits a.slots.items c.pend_all.new.slots.items c.confirm_unnamed.new.slots.items c.count_named.new.slots.items c.pend_all.new.named c.pend_all.new.fresh c.confirm_unnamed.new.tags.items c.count_named.new.marks.items s t st size_is threshold_is (kept_is ∙ sym c.self.view_is) nacks_is in
-    subst (λ (x : List Tag). UpdatesList t ack st x c.count_named.new.marks.items (kept_from (base + c.pop_confirmed.result) c.pop_confirmed.new.slots.items)) (sym c.from_vec.ensures)
-    (subst (UpdatesList t ack st c.confirm_unnamed.new.tags.items c.count_named.new.marks.items) (sym popped) updates)
+    let popped = pop_list a.next_ack c.pop_confirmed.result c.settle_all.new.kept_sdus.items c.pop_confirmed.new.kept_sdus.items c.pop_confirmed.ensures.kept in
+    let all = updates a.next_ack a.kept_sdus.items c.args.size c.args.ack c.args.threshold c.args.status.now c.plan.new.names.items c.plan.new.told.tags.items c.plan.new.told.marks.items c.in_default.ensures.ok c.settle_all.new.kept_sdus.items from enough c.settle_all.ensures.each c.settle_all.ensures.rest c.settle_all.ensures.long in
+    subst (λ (l : List (Option Kept)). UpdatesAll c.args.size c.args.threshold c.args.ack c.args.status.now l c.plan.new.told.tags.items c.plan.new.told.marks.items (kept_from (a.next_ack + c.pop_confirmed.result) c.pop_confirmed.new.kept_sdus.items)) c.self.view_is
+    (subst (UpdatesAll c.args.size c.args.threshold c.args.ack c.args.status.now (kept_from a.next_ack a.kept_sdus.items) c.plan.new.told.tags.items c.plan.new.told.marks.items) (sym popped) all)
+
+pub returns-clause-sent : goal.returns-clause-sent
+returns-clause-sent c =
+    let from : c.self.inside.next_ack ≤ c.args.ack = omega (arith, kept_front c.self.inside.next_ack c.self.inside.kept_sdus.items c.self.invariant.tidy.front, ap (prefix_len is_none) c.self.view_is, c.requires.from) in
+    let enough : c.args.ack ≤ c.self.inside.next_ack + length c.plan.new.names.items = omega (arith, kept_long c.self.inside.next_ack c.self.inside.kept_sdus.items, ap length c.self.view_is, c.requires.within, c.self.invariant.room, c.in_default.ensures.long) in
+    let a = c.self.inside in
+    let popped = pop_list a.next_ack c.pop_confirmed.result c.settle_all.new.kept_sdus.items c.pop_confirmed.new.kept_sdus.items c.pop_confirmed.ensures.kept in
+    let all = updates a.next_ack a.kept_sdus.items c.args.size c.args.ack c.args.threshold c.args.status.now c.plan.new.names.items c.plan.new.told.tags.items c.plan.new.told.marks.items c.in_default.ensures.ok c.settle_all.new.kept_sdus.items from enough c.settle_all.ensures.each c.settle_all.ensures.rest c.settle_all.ensures.long in
+    let updated : UpdatesAll c.args.size c.args.threshold c.args.ack c.args.status.now c.args.self.now c.plan.new.told.tags.items c.plan.new.told.marks.items (kept_from (c.self.inside.next_ack + c.pop_confirmed.result) c.pop_confirmed.new.kept_sdus.items) =
+    subst (λ (l : List (Option Kept)). UpdatesAll c.args.size c.args.threshold c.args.ack c.args.status.now l c.plan.new.told.tags.items c.plan.new.told.marks.items (kept_from (a.next_ack + c.pop_confirmed.result) c.pop_confirmed.new.kept_sdus.items)) c.self.view_is
+    (subst (UpdatesAll c.args.size c.args.threshold c.args.ack c.args.status.now (kept_from a.next_ack a.kept_sdus.items) c.plan.new.told.tags.items c.plan.new.told.marks.items) (sym popped) all) in
+    more_acked c.args.size c.args.threshold c.args.ack c.args.status.now c.args.self.now c.plan.new.told.tags.items c.plan.new.told.marks.items (kept_from (c.self.inside.next_ack + c.pop_confirmed.result) c.pop_confirmed.new.kept_sdus.items) a.unsent updated (subst (λ (l : List (Option Kept)). IsInOrder l a.unsent) c.self.view_is c.self.invariant.tidy.order)
+
+pub returns-clause-room : goal.returns-clause-room
+returns-clause-room c owed pending unsent some =
+    let from : c.self.inside.next_ack ≤ c.args.ack = omega (arith, kept_front c.self.inside.next_ack c.self.inside.kept_sdus.items c.self.invariant.tidy.front, ap (prefix_len is_none) c.self.view_is, c.requires.from) in
+    let enough : c.args.ack ≤ c.self.inside.next_ack + length c.plan.new.names.items = omega (arith, kept_long c.self.inside.next_ack c.self.inside.kept_sdus.items, ap length c.self.view_is, c.requires.within, c.self.invariant.room, c.in_default.ensures.long) in
+    let a = c.self.inside in
+    let popped = pop_list a.next_ack c.pop_confirmed.result c.settle_all.new.kept_sdus.items c.pop_confirmed.new.kept_sdus.items c.pop_confirmed.ensures.kept in
+    let all = updates a.next_ack a.kept_sdus.items c.args.size c.args.ack c.args.threshold c.args.status.now c.plan.new.names.items c.plan.new.told.tags.items c.plan.new.told.marks.items c.in_default.ensures.ok c.settle_all.new.kept_sdus.items from enough c.settle_all.ensures.each c.settle_all.ensures.rest c.settle_all.ensures.long in
+    let updated : UpdatesAll c.args.size c.args.threshold c.args.ack c.args.status.now c.args.self.now c.plan.new.told.tags.items c.plan.new.told.marks.items (kept_from (c.self.inside.next_ack + c.pop_confirmed.result) c.pop_confirmed.new.kept_sdus.items) =
+    subst (λ (l : List (Option Kept)). UpdatesAll c.args.size c.args.threshold c.args.ack c.args.status.now l c.plan.new.told.tags.items c.plan.new.told.marks.items (kept_from (a.next_ack + c.pop_confirmed.result) c.pop_confirmed.new.kept_sdus.items)) c.self.view_is
+    (subst (UpdatesAll c.args.size c.args.threshold c.args.ack c.args.status.now (kept_from a.next_ack a.kept_sdus.items) c.plan.new.told.tags.items c.plan.new.told.marks.items) (sym popped) all) in
+    c.in_default.ensures.room (elim (tags_or c.plan.new.told.tags.items) [
+      | inr tags ↦ inr (owed, tags)
+      | inl none ↦ inl (c.may_wake-may_wake.ensures.1 (owed, was_idle c.args.size c.args.threshold c.args.ack c.args.status.now c.args.self.now c.plan.new.told.tags.items c.plan.new.told.marks.items (kept_from (c.self.inside.next_ack + c.pop_confirmed.result) c.pop_confirmed.new.kept_sdus.items) updated none pending unsent some))
+    ])

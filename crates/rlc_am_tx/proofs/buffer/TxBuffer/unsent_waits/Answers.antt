@@ -2,8 +2,8 @@ use Rattle.std.proofs.Common.{◌≡◌, inl, inr, ℕ, true, false, nat_lt, Lis
 use Rattle.std.proofs.lemmas.Bool.{cases_lt}
 use Rattle.std.proofs.lemmas.Bool.Decides.{nat_tests}
 use Rattle.std.specs.Bool.{MatchBool}
-use Rattle.rlc_model.specs.Tx.{Kept}
-use Rattle.rlc_am_tx.specs.Buffer.{SomeUnsent, NoneUnsent, IsInOrder}
+use Rattle.rlc_model.specs.Tx.{Kept, SomeUnsent}
+use Rattle.rlc_am_tx.specs.Buffer.{NoneUnsent, IsInOrder}
 use Rattle.rlc_am_tx.proofs.Order.{some_unsent, none_unsent}
 use Rattle.rlc_am_tx.proofs.buffer.TxBuffer.unsent_waits.Goals as goal
 
@@ -15,4 +15,4 @@ waits l u next i is =
     ]
 
 pub returns : goal.returns
-returns c = waits c.args.self.now c.self.inside.unsent c.next.result (subst (λ (l : List (Option Kept)). IsInOrder l c.self.inside.unsent) c.self.view_is c.self.invariant.order) c.next.ensures.value
+returns c = waits c.args.self.now c.self.inside.unsent c.next.result (subst (λ (l : List (Option Kept)). IsInOrder l c.self.inside.unsent) c.self.view_is c.self.invariant.tidy.order) c.next.ensures.value

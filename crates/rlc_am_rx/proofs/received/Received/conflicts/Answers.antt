@@ -1,5 +1,0 @@
-use Rattle.rlc_am_rx.proofs.Seen.{entry_is}
-use Rattle.rlc_am_rx.proofs.received.Received.conflicts.Goals as goal
-
-pub returns : goal.returns
-returns c = rw (entry_is c.self.inside c.args.self.now c.self.invariant c.self.view_is c.args.number c.requires.from) c.conflicts.ensures
