@@ -1,81 +1,99 @@
 -- What is heard, from the bytes of all delivered PDUs, in whatever order they came: no window, no store.
-use Rattle.std.specs.Prelude.{◌≡◌, ◌⊎◌, ℕ, ◌<◌, true, false, List, [], ◌∷◌, length, slice_index, Some}
+use Rattle.std.specs.Prelude.{◌≡◌, ◌⊎◌, ℕ, ◌<◌, true, false, List, [], ◌∷◌, length, slice_index, Some, Ok as OkOf}
 use Rattle.link_base.specs.declared.names.SnSize.{SnSize}
-use Rattle.link_base.specs.declared.names.SnSize.TheVariants.{S12}
 use Rattle.link_base.specs.declared.names.PortName.{PortName}
-use Rattle.link_base.specs.declared.names.PortName.TheVariants.{Direct}
 use Rattle.link_base.specs.declared.names.Way.{Way}
 use Rattle.link_base.specs.declared.names.Key.{Key}
 use Rattle.rlc_pdu.specs.Amd.{Amd, IsAmd}
 use Rattle.rlc_model.specs.declared.hop.Pdu.{Pdu}
 use Rattle.rlc_model.specs.Pdu.{end_of, is_end, byte_at}
-use Rattle.pdcp_pdu.specs.Pdcp.{IsPdcp}
-use Rattle.pdcp_pdu.specs.Pdcp.Pdcp.{Sdu}
-use Rattle.script_text.specs.declared.line.Line.{Line}
-use Rattle.script_text.specs.declared.line.Line.TheVariants.{Deliver, Repeat}
-use Rattle.script_text.specs.declared.reply.Reply.{Reply}
+use Rattle.bearer_map.specs.declared.rows.BearerRow.{BearerRow}
+use Rattle.bearer_map.specs.Contents.{Contents}
+use Rattle.pdcp_pdu.specs.Pdcp.{IsPdcp, Sdu}
+use Rattle.pdcp_model.specs.HandUp.{Hearing, IsHeard as IsHeardOf, HandUp as HandUpOf}
 use Rattle.script_text.specs.History.{Entry}
-use Rattle.link_base.specs.SequenceNumbers.{Near}
-use Rattle.chain_model.specs.Air.{air_entry, is_delivery}
+use Rattle.rlc_model.specs.Sides.{hearer_of}
+use Rattle.node_model.specs.Names.{owner, sink}
+use Rattle.node_model.specs.Tables.{first_count}
+use Rattle.node_model.specs.Routing.{ToPdcp, Leads}
+use Rattle.chain_model.specs.Told.{air_entry, hears_ticket, known}
 use Rattle.chain_model.specs.Book.{handed}
 
--- the line and its reply have this ticket's PDU heard
-abbrev pub delivers : Line → Reply → ℕ → Type 0
-delivers (Deliver ticket) reply t = (is_delivery reply ≡ true) × (ticket ≡ t)
-delivers (Repeat ticket) reply t = (is_delivery reply ≡ true) × (ticket ≡ t)
-delivers line reply t = ⊥
+-- a hop in one way and one epoch, with the size of its port's SNs
+pub record HopOf : Type 0 where
+  pub size : SnSize
+  pub port : PortName
+  pub way : Way
+  pub epoch : ℕ
 
--- behind a history the entry delivers, over a port and in a way, a data PDU of this number with these fields
-pub record Delivers (size : SnSize) (port : PortName) (way : Way) (h : List Entry) (e : Entry) (number : ℕ) (fields : Amd) : Type 0 where
+-- the PDU went over this hop
+pub record GoesOver (hop : HopOf) (pdu : Pdu) : Type 0 where
+  pub port : pdu.port ≡ hop.port
+  pub way : pdu.way ≡ hop.way
+  pub epoch : pdu.epoch ≡ hop.epoch
+
+-- behind a history the line delivers over a hop a data PDU of this number with these fields
+pub record Delivers (hop : HopOf) (h : List Entry) (e : Entry) (number : ℕ) (fields : Amd) : Type 0 where
   pub ticket : ℕ
+  pub hears : hears_ticket e ticket ≡ true
   pub pdu : Pdu
-  pub heard : delivers e.line e.reply ticket
   pub shown : air_entry h ticket ≡ Some pdu
-  pub its_port : pdu.port ≡ port
-  pub its_way : pdu.way ≡ way
+  pub over : GoesOver hop pdu
   pub is_data : pdu.status ≡ false
   pub its_number : pdu.number ≡ number
-  pub reads : IsAmd size fields pdu.bytes
+  pub reads : IsAmd hop.size fields pdu.bytes
 
--- some entry has delivered, over a port and in a way, a data PDU of this number with these fields
-abbrev pub Delivered : SnSize → PortName → Way → List Entry → ℕ → Amd → Type 0
-Delivered size port way [] number fields = ⊥
-Delivered size port way (e ∷ h) number fields = Delivers size port way h e number fields ⊎ Delivered size port way h number fields
+-- some line has delivered over a hop a data PDU of this number with these fields
+abbrev pub Delivered : HopOf → List Entry → ℕ → Amd → Type 0
+Delivered hop [] number fields = ⊥
+Delivered hop (e ∷ h) number fields = Delivers hop h e number fields ⊎ Delivered hop h number fields
 
 -- the delivered PDUs of a number have this byte for this place of the SDU
-abbrev pub HasByte : SnSize → PortName → Way → List Entry → ℕ → ℕ → ℕ → Type 0
-HasByte size port way h number place b = (fields : Amd) × Delivered size port way h number fields × (byte_at fields place ≡ Some b)
+abbrev pub HasByte : HopOf → List Entry → ℕ → ℕ → ℕ → Type 0
+HasByte hop h number place b = (fields : Amd) × Delivered hop h number fields × (byte_at fields place ≡ Some b)
 
 -- a delivered whole SDU or last segment of a number ends at this length
-abbrev pub HasEnd : SnSize → PortName → Way → List Entry → ℕ → ℕ → Type 0
-HasEnd size port way h number long = (fields : Amd) × Delivered size port way h number fields × (is_end fields.si ≡ true) × (end_of fields ≡ long)
+abbrev pub HasEnd : HopOf → List Entry → ℕ → ℕ → Type 0
+HasEnd hop h number long = (fields : Amd) × Delivered hop h number fields × (is_end fields.si ≡ true) × (end_of fields ≡ long)
 
 -- the number is heard as this SDU: its end, and a byte for each of its places
-pub record HeardAt (size : SnSize) (port : PortName) (way : Way) (h : List Entry) (number : ℕ) (sdu : List ℕ) : Type 0 where
-  pub end : HasEnd size port way h number (length sdu)
-  pub bytes : (place : ℕ) → place < length sdu → HasByte size port way h number place (slice_index sdu place)
+pub record HeardAt (hop : HopOf) (h : List Entry) (number : ℕ) (sdu : List ℕ) : Type 0 where
+  pub end : HasEnd hop h number (length sdu)
+  pub bytes : (place : ℕ) → place < length sdu → HasByte hop h number place (slice_index sdu place)
 
--- behind a history the entry completes, of a key, a number on its direct port whose SDU is a PDCP data PDU with this SDU and the SN of
--- this COUNT, the only one near the number of SDUs handed up so far (TS 38.323 clauses 6.2.2 and 7.1)
-pub record Completes (size : SnSize) (key : Key) (h : List Entry) (e : Entry) (count : ℕ) (sdu : List ℕ) : Type 0 where
+-- behind a history the line completes a number of a hop, as this SDU
+pub record CompletesAt (hop : HopOf) (h : List Entry) (e : Entry) (number : ℕ) (sdu : List ℕ) : Type 0 where
+  pub now : HeardAt hop (e ∷ h) number sdu
+  pub before : HeardAt hop h number sdu → ⊥
+
+-- behind a history the line completes a data PDU of a key: the SDU of a hop at the key's receiving end leads to the key with what the node attaches
+-- then, and is the PDCP data PDU with this SN and SDU
+pub record Completes (t : Contents) (row : BearerRow) (key : Key) (h : List Entry) (e : Entry) (hearing : Hearing) : Type 0 where
+  pub hop : HopOf
   pub number : ℕ
+  pub whole : List ℕ
+  pub completes : CompletesAt hop h e number whole
+  pub at_sink : owner (hearer_of hop.way) hop.port ≡ sink key
   pub pdu : List ℕ
-  pub now : HeardAt size (Direct key.remote key.drb) key.way (e ∷ h) number pdu
-  pub before : HeardAt size (Direct key.remote key.drb) key.way h number pdu → ⊥
-  pub sn : ℕ
-  pub reads : IsPdcp S12 (Sdu sn sdu) pdu
-  pub near : Near S12 sn (length (handed key h)) count
+  pub leads : Leads t (known t (sink key) h) (hearer_of hop.way) hop.port whole (OkOf (ToPdcp key pdu))
+  pub reads : IsPdcp row.pdcp (Sdu hearing.sn hearing.sdu) pdu
 
--- of a key, delivered PDUs complete the SDU of this COUNT, which is this
-abbrev pub IsHeardAs : SnSize → Key → List Entry → ℕ → List ℕ → Type 0
-IsHeardAs size key [] count sdu = ⊥
-IsHeardAs size key (e ∷ h) count sdu = Completes size key h e count sdu ⊎ IsHeardAs size key h count sdu
+-- the data PDUs of a key that the delivered PDUs of a history complete, the last first: each line completes one or none
+abbrev pub CompletesAll : Contents → BearerRow → Key → List Entry → List Hearing → Type 0
+CompletesAll t row key [] hearings = hearings ≡ []
+CompletesAll t row key (e ∷ h) hearings =
+    (((hearing : Hearing) → Completes t row key h e hearing → ⊥) × CompletesAll t row key h hearings)
+    ⊎ ((hearing : Hearing) × (earlier : List Hearing) × Completes t row key h e hearing × CompletesAll t row key h earlier × (hearings ≡ hearing ∷ earlier))
 
 -- of a key, delivered PDUs complete the SDU of this COUNT
-abbrev pub IsHeard : SnSize → Key → List Entry → ℕ → Type 0
-IsHeard size key h count = (sdu : List ℕ) × IsHeardAs size key h count sdu
+abbrev pub IsHeard : Contents → BearerRow → Key → List Entry → ℕ → Type 0
+IsHeard t row key h count = (hearings : List Hearing) × CompletesAll t row key h hearings × IsHeardOf row.pdcp (first_count row key.way) hearings count
 
--- the least COUNT of a key that no delivered PDUs complete
-pub record IsLeastUnheard (size : SnSize) (key : Key) (h : List Entry) (count : ℕ) : Type 0 where
-  pub below : (lower : ℕ) → lower < count → IsHeard size key h lower
-  pub here : IsHeard size key h count → ⊥
+-- what is to be handed up of a key: the SDUs of the longest run of COUNTs from the first one on that delivered PDUs complete
+abbrev pub HandUp : Contents → BearerRow → Key → List Entry → List (List ℕ) → Type 0
+HandUp t row key h sdus = (hearings : List Hearing) × CompletesAll t row key h hearings × HandUpOf row.pdcp (first_count row key.way) hearings sdus
+
+-- at each moment of a history the SDUs that its events show are exactly those
+abbrev pub HandsUpExactly : Contents → BearerRow → Key → List Entry → Type 0
+HandsUpExactly t row key [] = HandUp t row key [] []
+HandsUpExactly t row key (e ∷ h) = HandsUpExactly t row key h × HandUp t row key (e ∷ h) (handed key (e ∷ h))

@@ -10,9 +10,9 @@ use Rattle.script_text.specs.Lines.{is_skipped, Spells}
 use Rattle.script_text.specs.Grammar.{Parses}
 use Rattle.script_text.specs.Texts.{entry_text}
 use Rattle.script_text.specs.History.{Entry, trace}
-use Rattle.chain_model.specs.Tables.{table_of, contents, is_carried}
-use Rattle.chain_model.specs.Chain.{Chain}
-use Rattle.chain_model.specs.Steps.{Step, LeadsTo}
+use Rattle.direct_model.specs.Tables.{table_of, contents, is_carried}
+use Rattle.direct_model.specs.Chain.{Chain}
+use Rattle.direct_model.specs.Steps.{Step, LeadsTo}
 
 -- a line that was read and carried out is one more entry
 pub reads_on : (old mid new : ScriptStage) (before behind : Chain) (text : List ℕ) (line : Line) (events : List Event) (reply : Reply) (h : List Entry) (out out' : List ℕ)

@@ -22,9 +22,9 @@ use Rattle.script_text.specs.History.{Entry, ReadsLines, Spelt}
 use Rattle.script_text.proofs.OneLine.{one_line}
 use Rattle.script_text.proofs.OneParse.{one_parse}
 use Rattle.script_text.proofs.SpeltIsRead.{spelt_is_read}
-use Rattle.chain_model.specs.Tables.{contents, is_carried}
-use Rattle.chain_model.specs.Chain.{Chain}
-use Rattle.chain_model.specs.Steps.{Stands, LeadsTo}
+use Rattle.direct_model.specs.Tables.{contents, is_carried}
+use Rattle.direct_model.specs.Chain.{Chain}
+use Rattle.direct_model.specs.Steps.{Stands, LeadsTo}
 use Rattle.player.specs.declared.play.Ending.{Ending}
 use Rattle.player.specs.declared.play.Ending.TheVariants.{Done, Later, Bad, TooLong}
 use Rattle.player.specs.Plays.{IsLater}

@@ -22,15 +22,15 @@ use Rattle.rlc_model.specs.Retransmission.{HearsStatus}
 use Rattle.script_text.specs.declared.event.Event.{Event}
 use Rattle.script_text.specs.declared.reply.Reply.{Reply}
 use Rattle.script_text.specs.declared.reply.Reply.TheVariants.{NoPort, AirFull, Worn}
-use Rattle.chain_model.specs.declared.table.Bearer.{Bearer}
-use Rattle.chain_model.specs.declared.table.BearerTable.{BearerTable}
-use Rattle.chain_model.specs.Tables.{is_served, is_bearer, has_port, direct_size}
+use Rattle.direct_model.specs.declared.table.Bearer.{Bearer}
+use Rattle.direct_model.specs.declared.table.BearerTable.{BearerTable}
+use Rattle.direct_model.specs.Tables.{is_served, is_bearer, has_port, direct_size}
 use Rattle.rlc_model.specs.declared.hop.Pdu.{Pdu}
-use Rattle.chain_model.specs.Chain.{Chain, pdu_of}
+use Rattle.direct_model.specs.Chain.{Chain, pdu_of}
 use Rattle.rlc_model.specs.Hop.{air_fault}
-use Rattle.chain_model.specs.Steps.{grant_refusal, on_air, air_refusal, unheard, HearsEntry, HearsPdu, Confirms}
-use Rattle.chain_law.specs.Fits.{Fits}
-use Rattle.chain_law.proofs.FitsFacts.{no_refusal, tx_size, rx_size, air_key, air_reads, air_completes, air_tells}
+use Rattle.direct_model.specs.Steps.{grant_refusal, on_air, air_refusal, unheard, HearsEntry, HearsPdu, Confirms}
+use Rattle.direct_law.specs.Fits.{Fits}
+use Rattle.direct_law.proofs.FitsFacts.{no_refusal, tx_size, rx_size, air_key, air_reads, air_completes, air_tells}
 use Rattle.player.specs.declared.answer.Answer.{Answer}
 use Rattle.player.specs.declared.hearing.Hearing.TheVariants as hearing
 use Rattle.player.specs.Playable.{IsReadable, IsStatusPdu, IsHearable, Hears, Tells}

@@ -9,7 +9,7 @@ use Rattle.script_text.specs.Splits.{IsTooLong}
 use Rattle.script_text.specs.Grammar.{IsBad, IsFirstReason, reasons}
 use Rattle.script_text.specs.History.{Entry, ReadsLines}
 use Rattle.script_text.proofs.OneParse.{one_first, none_first}
-use Rattle.chain_model.specs.Chain.{Chain}
+use Rattle.direct_model.specs.Chain.{Chain}
 use Rattle.player.specs.declared.play.Ending.{Ending}
 use Rattle.player.specs.declared.play.Ending.TheVariants.{Done, Later, Bad, TooLong}
 use Rattle.player.specs.Plays.{IsLater}

@@ -9,8 +9,8 @@ use Rattle.rlc_model.specs.declared.receiver.Heard.TheVariants.{Complete}
 use Rattle.script_text.specs.declared.event.Event.{Event}
 use Rattle.script_text.specs.declared.reply.Reply.{Reply}
 use Rattle.script_text.specs.declared.reply.Reply.TheVariants.{OkUp, OkWaiting, OkOld, OkTwice}
-use Rattle.chain_model.specs.Chain.{Chain}
-use Rattle.chain_model.specs.Steps.{HearsCount, HearsSdu, Passes}
+use Rattle.direct_model.specs.Chain.{Chain}
+use Rattle.direct_model.specs.Steps.{HearsCount, HearsSdu, Passes}
 use Rattle.player.specs.Receives.{Receives, ReceivesCount}
 
 -- the chain behind a receiver's step

@@ -7,8 +7,8 @@ use Rattle.std.proofs.lemmas.Grind.{common_steps}
 use Rattle.link_base.specs.declared.names.Key.{Key}
 use Rattle.script_text.specs.declared.event.Event.{Event}
 use Rattle.script_text.specs.declared.event.Event.TheVariants.{Up}
-use Rattle.chain_model.specs.Chain.{stored_at}
-use Rattle.chain_model.specs.Steps.{shown}
+use Rattle.direct_model.specs.Chain.{stored_at}
+use Rattle.direct_model.specs.Steps.{shown}
 use Rattle.player.specs.Receives.{Passes}
 
 -- some SDUs have gone up, deliv to but without the COUNT next

@@ -14,18 +14,18 @@ use Rattle.script_text.specs.Lines.{is_skipped}
 use Rattle.script_text.specs.Splits.{Splits, EndsInTime, IsTooLong}
 use Rattle.script_text.specs.Texts.{is_running, totals_text, done_text, bad_text, reason_text, too_long_text}
 use Rattle.script_text.specs.History.{Entry, trace, ReadsLines, Spelt}
-use Rattle.chain_model.specs.declared.table.Bearer.{Bearer}
-use Rattle.chain_model.specs.declared.table.BearerTable.{BearerTable}
-use Rattle.chain_model.specs.Tables.{is_bearer}
-use Rattle.chain_model.specs.Book.{submitted, handed}
-use Rattle.chain_model.specs.Chain.{Chain, confirmed as confirmed_number}
-use Rattle.chain_model.specs.Steps.{IsKey}
-use Rattle.chain_law.specs.Fits.{Fits}
-use Rattle.chain_law.proofs.TellsSteps.{leads_book}
-use Rattle.chain_law.proofs.CarriesSdus.{carries_accepted}
-use Rattle.chain_law.proofs.TrueReports.{reports_truly}
-use Rattle.chain_law.proofs.HandsUp.{hands_up, confirms_handed}
-use Rattle.chain_law.proofs.Keys.{same_key, no_key}
+use Rattle.direct_model.specs.declared.table.Bearer.{Bearer}
+use Rattle.direct_model.specs.declared.table.BearerTable.{BearerTable}
+use Rattle.direct_model.specs.Tables.{is_bearer}
+use Rattle.direct_model.specs.Book.{submitted, handed}
+use Rattle.direct_model.specs.Chain.{Chain, confirmed as confirmed_number}
+use Rattle.direct_model.specs.Steps.{IsKey}
+use Rattle.direct_law.specs.Fits.{Fits}
+use Rattle.direct_law.proofs.TellsSteps.{leads_book}
+use Rattle.direct_law.proofs.CarriesSdus.{carries_accepted}
+use Rattle.direct_law.proofs.TrueReports.{reports_truly}
+use Rattle.direct_law.proofs.HandsUp.{hands_up, confirms_handed}
+use Rattle.direct_law.proofs.Keys.{same_key, no_key}
 use Rattle.player.specs.declared.play.Ending.{Ending}
 use Rattle.player.specs.declared.play.Ending.TheVariants.{Done, Later, Bad, TooLong}
 use Rattle.player.specs.declared.player_state.Player.{Player}

@@ -4,8 +4,8 @@ use Rattle.link_base.specs.declared.names.Way.TheVariants.{Ul, Dl}
 use Rattle.link_base.specs.declared.names.Key.{Key}
 use Rattle.script_text.specs.declared.trace.Total.{Total}
 use Rattle.script_text.specs.Texts.{totals_text, done_text}
-use Rattle.chain_model.specs.declared.table.Bearer.{Bearer}
-use Rattle.chain_model.specs.Chain.{Chain, confirmed}
+use Rattle.direct_model.specs.declared.table.Bearer.{Bearer}
+use Rattle.direct_model.specs.Chain.{Chain, confirmed}
 
 -- the key of a bearer's SDUs
 abbrev pub key_of : Option Bearer → Option Key

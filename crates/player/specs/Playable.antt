@@ -21,8 +21,8 @@ use Rattle.script_text.specs.declared.event.Event.{Event}
 use Rattle.script_text.specs.declared.reply.Reply.{Reply}
 use Rattle.script_text.specs.declared.reply.Reply.TheVariants.{OkAcks, OkPast, OkBeyond, NoAir}
 use Rattle.rlc_model.specs.declared.hop.Pdu.{Pdu}
-use Rattle.chain_model.specs.Chain.{Chain, pdu_of}
-use Rattle.chain_model.specs.Steps.{air_refusal, marked, confirming, HearsPdu}
+use Rattle.direct_model.specs.Chain.{Chain, pdu_of}
+use Rattle.direct_model.specs.Steps.{air_refusal, marked, confirming, HearsPdu}
 use Rattle.player.specs.declared.hearing.Hearing.{Hearing}
 use Rattle.player.specs.declared.hearing.Hearing.TheVariants as hearing
 

@@ -10,8 +10,8 @@ use Rattle.script_text.specs.Lines.{is_skipped, IsLineOf, Spells}
 use Rattle.script_text.specs.Stages.{after}
 use Rattle.script_text.specs.Grammar.{IsBad, IsFirstReason, NoneHolds, reasons}
 use Rattle.script_text.specs.History.{Entry, trace}
-use Rattle.chain_model.specs.Tables.{contents, is_carried}
-use Rattle.chain_model.specs.Steps.{LeadsTo}
+use Rattle.direct_model.specs.Tables.{contents, is_carried}
+use Rattle.direct_model.specs.Steps.{LeadsTo}
 
 -- the lines of a history lead to a player
 abbrev pub Plays : Player → List Entry → Type 0

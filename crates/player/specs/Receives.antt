@@ -6,8 +6,8 @@ use Rattle.link_base.specs.SequenceNumbers.{Near}
 use Rattle.script_text.specs.declared.event.Event.{Event}
 use Rattle.script_text.specs.declared.reply.Reply.{Reply}
 use Rattle.script_text.specs.declared.reply.Reply.TheVariants.{OkUp, OkWaiting, OkOld, OkTwice, OkNoCount}
-use Rattle.chain_model.specs.Chain.{stored_at}
-use Rattle.chain_model.specs.Steps.{shown}
+use Rattle.direct_model.specs.Chain.{stored_at}
+use Rattle.direct_model.specs.Steps.{shown}
 
 -- the SDU with the next COUNT goes up, and those behind it that wait, without a gap
 pub record Passes (key : Key) (stored : List (Option (List ℕ))) (deliv : ℕ) (sdu : List ℕ) (stored' : List (Option (List ℕ))) (deliv' : ℕ) (events : List Event) (number : ℕ) : Type 0 where

@@ -14,14 +14,14 @@ use Rattle.script_text.specs.Stages.{first_stage}
 use Rattle.script_text.specs.Grammar.{IsBad, IsFirstReason, reasons}
 use Rattle.script_text.specs.Texts.{is_running, totals_text, done_text, bad_text, reason_text, too_long_text}
 use Rattle.script_text.specs.History.{Entry, trace, ReadsLines, Spelt}
-use Rattle.chain_model.specs.Tables.{direct_size, is_served}
+use Rattle.direct_model.specs.Tables.{direct_size, is_served}
 use Rattle.rlc_model.specs.declared.hop.Pdu.{Pdu}
-use Rattle.chain_model.specs.Air.{air_entry}
-use Rattle.chain_model.specs.Book.{submitted, handed, confirmed}
-use Rattle.chain_model.specs.HandUp.{HandsUp, ConfirmsHanded}
-use Rattle.chain_model.specs.Chain.{Chain}
-use Rattle.chain_model.specs.Steps.{IsKey, Stands, LeadsTo}
-use Rattle.chain_law.specs.Carried.{Carries, ReportsTruly}
+use Rattle.direct_model.specs.Air.{air_entry}
+use Rattle.direct_model.specs.Book.{submitted, handed, confirmed}
+use Rattle.direct_model.specs.HandUp.{HandsUp, ConfirmsHanded}
+use Rattle.direct_model.specs.Chain.{Chain}
+use Rattle.direct_model.specs.Steps.{IsKey, Stands, LeadsTo}
+use Rattle.direct_law.specs.Carried.{Carries, ReportsTruly}
 use Rattle.player.specs.declared.play.Ending.{Ending}
 use Rattle.player.specs.declared.play.Ending.TheVariants.{Done, Later, Bad, TooLong}
 use Rattle.player.specs.Ended.{is_ended}

@@ -1,5 +1,5 @@
 -- What a session is seen as.
-use Rattle.chain_model.specs.Chain.{Chain}
+use Rattle.direct_model.specs.Chain.{Chain}
 use Rattle.player.specs.declared.session.Session.TheInside.{Inside}
 
 abbrev pub chain_of : Inside → Chain

@@ -1,9 +1,9 @@
 // Which lines are carried out, and with what tables.
 ghost use Rattle.std.specs.Prelude.{◌≡◌, length};
-ghost use Rattle.chain_model.specs.Tables.{table_of, contents, is_carried, is_direct, is_rlc_setting};
+ghost use Rattle.direct_model.specs.Tables.{table_of, contents, is_carried, is_direct, is_rlc_setting};
 
 use bearer_map::SetName;
-use chain_model::BearerTable;
+use direct_model::BearerTable;
 use link_base::{PortName, SnSize, Way};
 use script_text::{Line, ScriptStage};
 

@@ -2,7 +2,7 @@
 ghost use Rattle.std.specs.Prelude.{◌≡◌, ◌++◌, List, [], IfOk, OnOk, string_bytes};
 ghost use Rattle.script_text.specs.Texts.{bad_text, reason_text, too_long_text};
 ghost use Rattle.script_text.specs.History.{Entry, trace};
-ghost use Rattle.chain_law.specs.Fits.{Fits};
+ghost use Rattle.direct_law.specs.Fits.{Fits};
 ghost use Rattle.player.specs.Plays.{Plays};
 ghost use Rattle.player.specs.Turns.{TurnsAt, StopsAtEnd};
 ghost use Rattle.player.specs.Runs.{IsRun};

@@ -31,9 +31,9 @@ impl Player {
     ghost use Rattle.std.specs.Prelude.{◌≡◌, ◌++◌, List, [], IfOk, OnOk, string_bytes};
     ghost use Rattle.script_text.specs.Texts.{entry_text, is_running};
     ghost use Rattle.script_text.specs.History.{Entry, trace};
-    ghost use Rattle.chain_model.specs.Tables.{table_of, contents};
-    ghost use Rattle.chain_model.specs.Steps.{Step};
-    ghost use Rattle.chain_law.specs.Fits.{Fits};
+    ghost use Rattle.direct_model.specs.Tables.{table_of, contents};
+    ghost use Rattle.direct_model.specs.Steps.{Step};
+    ghost use Rattle.direct_law.specs.Fits.{Fits};
     ghost use Rattle.player.specs.Ended.{is_ended};
     ghost use Rattle.player.specs.Playable.{IsPlayable};
     ghost use Rattle.player.specs.Plays.{Plays, ReadsText};

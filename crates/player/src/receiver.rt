@@ -15,7 +15,7 @@ pub struct Receiver {
 
 impl Receiver {
     ghost use Rattle.std.specs.Prelude.{◌≡◌, ◌≢◌, ℕ, List, [], ◌<◌, ◌≤◌, ◌^◌, is_some, length, IfOk, OnOk, OnErr};
-    ghost use Rattle.chain_model.specs.Chain.{stored_at};
+    ghost use Rattle.direct_model.specs.Chain.{stored_at};
     ghost use Rattle.player.specs.Receives.{Receives, ReceivesCount, HandsOver};
 
     /// A receiver that has heard nothing.

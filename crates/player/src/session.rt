@@ -2,7 +2,7 @@
 use crate::reading::{read_sdu, read_status, want_of};
 use crate::telling::{confirm, direct_size, key_of, say, tag_of, unheard};
 use crate::{Answer, Hearing, Receiver};
-use chain_model::BearerTable;
+use direct_model::BearerTable;
 use link_base::{
     Bytes, COUNT_END, Drb, Expired, Key, LONGEST_PDCP_SDU, Memory, PortName, Remote, SduList, Side,
     SnSize, Timer, Way, copy_bytes,
@@ -52,7 +52,7 @@ pub struct Session {
 }
 
 impl Model for Session {
-    ghost use Rattle.chain_model.specs.Chain.{Chain};
+    ghost use Rattle.direct_model.specs.Chain.{Chain};
     ghost use Rattle.player.specs.Session.{chain_of};
 
     ghost Value = { Chain };
@@ -63,12 +63,12 @@ impl Model for Session {
 impl Session {
     ghost use Rattle.std.specs.Prelude.{◌≡◌, ◌≢◌, ◌≤◌, ◌<◌, ◌^◌, ◌++◌, ◌∷◌, [], ℕ, true, false, length, IfOk, IfErr, OnOk, if◌then◌else◌, ◌+◌};
     ghost use Rattle.std.specs.declared.option.Option.TheVariants.{Some, None};
-    ghost use Rattle.chain_model.specs.Tables.{has_bearer, has_port};
-    ghost use Rattle.chain_model.specs.Chain.{opened, confirmed, pdu_of};
+    ghost use Rattle.direct_model.specs.Tables.{has_bearer, has_port};
+    ghost use Rattle.direct_model.specs.Chain.{opened, confirmed, pdu_of};
     ghost use Rattle.rlc_model.specs.Tx.{tx_next_ack};
     ghost use Rattle.rlc_model.specs.Rx.{rx_next};
-    ghost use Rattle.chain_model.specs.Steps.{on_air, submit_refusal, grant_refusal, expire_refusal, without, sent, Unless, Accepts, Granted, GrantedData, HearsEntry, Passes, Loses, ExpiresAt, Expires, Step};
-    ghost use Rattle.chain_law.specs.Fits.{Fits};
+    ghost use Rattle.direct_model.specs.Steps.{on_air, submit_refusal, grant_refusal, expire_refusal, without, sent, Unless, Accepts, Granted, GrantedData, HearsEntry, Passes, Loses, ExpiresAt, Expires, Step};
+    ghost use Rattle.direct_law.specs.Fits.{Fits};
     ghost use Rattle.player.specs.Finishes.{key_of};
     ghost use Rattle.player.specs.Playable.{IsPlayable, IsReadable, IsHearable, HearsKind, Hears, refusal_of};
 

@@ -1,12 +1,12 @@
 // The tables as a session uses them, and the events and replies that it tells.
 ghost use Rattle.std.specs.Prelude.{◌≡◌, ◌++◌, true, IfOk, OnOk};
 ghost use Rattle.std.specs.declared.option.Option.TheVariants.{Some};
-ghost use Rattle.chain_model.specs.Tables.{direct_size, is_served};
-ghost use Rattle.chain_model.specs.Steps.{tag_of, marked, confirming, unheard, IsKey, Says};
+ghost use Rattle.direct_model.specs.Tables.{direct_size, is_served};
+ghost use Rattle.direct_model.specs.Steps.{tag_of, marked, confirming, unheard, IsKey, Says};
 ghost use Rattle.player.specs.Playable.{Tells};
 
 use crate::Answer;
-use chain_model::BearerTable;
+use direct_model::BearerTable;
 use link_base::{Expired, Key, Memory, PortName, SnSize, Tag, Way};
 use rlc_am_tx::StatusHeard;
 use rlc_hop::AirFault;

@@ -1,5 +1,5 @@
 use Rattle.std.proofs.Common.{◌≡◌, ◌++◌, take}
-use Rattle.chain_model.specs.Steps.{marked}
+use Rattle.direct_model.specs.Steps.{marked}
 use Rattle.player.proofs.telling.push_marks.Given as goal
 
 abbrev pub invariant-loop-number : goal.invariant-loop-number

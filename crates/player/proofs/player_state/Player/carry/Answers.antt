@@ -1,4 +1,4 @@
-use Rattle.chain_law.proofs.FitsSteps.{step_fits}
+use Rattle.direct_law.proofs.FitsSteps.{step_fits}
 use Rattle.player.proofs.player_state.Player.carry.Goals as goal
 
 pub returns-clause-fits : goal.returns-clause-fits

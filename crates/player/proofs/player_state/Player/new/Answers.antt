@@ -1,6 +1,6 @@
 use Rattle.std.proofs.Common.{sym, subst}
-use Rattle.chain_law.specs.Fits.{Fits}
-use Rattle.chain_law.proofs.FitsSteps.{fits_opened}
+use Rattle.direct_law.specs.Fits.{Fits}
+use Rattle.direct_law.proofs.FitsSteps.{fits_opened}
 use Rattle.player.proofs.player_state.Player.new.Goals as goal
 
 pub returns-clause-fits : goal.returns-clause-fits

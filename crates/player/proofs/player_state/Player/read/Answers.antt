@@ -2,7 +2,7 @@ use Rattle.std.proofs.Common.{◌≡◌, true, sym, ◌∙◌, subst}
 use Rattle.std.specs.Prelude.{Ok, Some, Option}
 use Rattle.script_text.specs.declared.line.Line.{Line}
 use Rattle.script_text.specs.Grammar.{Parses}
-use Rattle.chain_model.specs.Tables.{contents, is_carried}
+use Rattle.direct_model.specs.Tables.{contents, is_carried}
 use Rattle.player.proofs.Carrying.{reads_on}
 use Rattle.player.proofs.player_state.Player.read.Goals as goal
 

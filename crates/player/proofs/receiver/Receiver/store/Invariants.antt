@@ -1,5 +1,5 @@
 use Rattle.std.proofs.Common.{◌≡◌, ℕ, ◌+◌, ◌-◌, length}
-use Rattle.chain_model.specs.Chain.{stored_at}
+use Rattle.direct_model.specs.Chain.{stored_at}
 use Rattle.player.proofs.receiver.Receiver.store.Given as goal
 
 abbrev pub invariant-loop-self : goal.invariant-loop-self

@@ -1,9 +1,9 @@
 use Rattle.std.proofs.Common.{◌≡◌, arith, sym, subst}
 use Rattle.std.specs.declared.option.Option.TheVariants.{None}
-use Rattle.chain_model.specs.Chain.{Chain}
-use Rattle.chain_model.specs.Steps.{submit_refusal}
-use Rattle.chain_law.specs.Fits.{Fits}
-use Rattle.chain_law.proofs.FitsFacts.{has_room, has_number}
+use Rattle.direct_model.specs.Chain.{Chain}
+use Rattle.direct_model.specs.Steps.{submit_refusal}
+use Rattle.direct_law.specs.Fits.{Fits}
+use Rattle.direct_law.proofs.FitsFacts.{has_room, has_number}
 use Rattle.player.specs.Session.{chain_of}
 use Rattle.player.proofs.session.Session.accept.Goals as goal
 

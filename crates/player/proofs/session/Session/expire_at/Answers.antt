@@ -3,8 +3,8 @@ use Rattle.link_base.specs.declared.names.Side.{Side}
 use Rattle.link_base.specs.declared.names.Side.TheVariants.{Low, High}
 use Rattle.link_base.specs.declared.names.Timer.{Timer}
 use Rattle.link_base.specs.declared.names.Timer.TheVariants.{Poll, Reasm, Prohibit}
-use Rattle.chain_model.specs.Chain.{Chain}
-use Rattle.chain_model.specs.Steps.{ExpiresAt}
+use Rattle.direct_model.specs.Chain.{Chain}
+use Rattle.direct_model.specs.Steps.{ExpiresAt}
 use Rattle.player.specs.Session.{chain_of}
 use Rattle.player.proofs.session.Session.expire_at.Goals as goal
 

@@ -3,10 +3,10 @@ use Rattle.std.proofs.lemmas.Result.{IfOk-weaker}
 use Rattle.std.specs.declared.option.Option.TheVariants.{Some}
 use Rattle.link_base.specs.declared.names.SnSize.{SnSize}
 use Rattle.rlc_pdu.specs.Amd.{IsAmd, amd_of}
-use Rattle.chain_model.specs.Tables.{direct_size}
-use Rattle.chain_model.specs.Chain.{Chain, pdu_of}
-use Rattle.chain_law.specs.Fits.{Fits}
-use Rattle.chain_law.proofs.FitsFacts.{rx_next_small, rx_deliv_small}
+use Rattle.direct_model.specs.Tables.{direct_size}
+use Rattle.direct_model.specs.Chain.{Chain, pdu_of}
+use Rattle.direct_law.specs.Fits.{Fits}
+use Rattle.direct_law.proofs.FitsFacts.{rx_next_small, rx_deliv_small}
 use Rattle.player.specs.Session.{chain_of}
 use Rattle.player.specs.Playable.{IsHearable, HearsKind}
 use Rattle.player.proofs.OnAir.{hearable_there, hearable_is, served_here, reads_here, reads_so, passes_here}

@@ -2,10 +2,10 @@ use Rattle.std.proofs.Common.{◌≡◌, ℕ, List, true, sym, subst, arith}
 use Rattle.std.specs.declared.option.Option.TheVariants.{Some}
 use Rattle.link_base.specs.declared.names.SnSize.{SnSize}
 use Rattle.rlc_status.specs.Format.{IsStatus}
-use Rattle.chain_model.specs.Tables.{direct_size}
-use Rattle.chain_model.specs.Chain.{Chain, pdu_of}
-use Rattle.chain_law.specs.Fits.{Fits}
-use Rattle.chain_law.proofs.FitsFacts.{tx_next_small}
+use Rattle.direct_model.specs.Tables.{direct_size}
+use Rattle.direct_model.specs.Chain.{Chain, pdu_of}
+use Rattle.direct_law.specs.Fits.{Fits}
+use Rattle.direct_law.proofs.FitsFacts.{tx_next_small}
 use Rattle.player.specs.Session.{chain_of}
 use Rattle.player.specs.Playable.{IsHearable}
 use Rattle.player.proofs.OnAir.{hearable_is, served_here, tells_here}

@@ -7,10 +7,10 @@ use Rattle.rlc_model.specs.declared.hop.AirFault.{AirFault}
 use Rattle.rlc_model.specs.Hop.{air_fault}
 use Rattle.rlc_model.specs.Tx.{tx_next_ack}
 use Rattle.rlc_model.specs.Rx.{rx_next}
-use Rattle.chain_model.specs.Tables.{direct_size}
-use Rattle.chain_model.specs.Chain.{Chain, pdu_of}
-use Rattle.chain_model.specs.Steps.{air_refusal, unheard}
-use Rattle.chain_law.specs.Fits.{Fits}
+use Rattle.direct_model.specs.Tables.{direct_size}
+use Rattle.direct_model.specs.Chain.{Chain, pdu_of}
+use Rattle.direct_model.specs.Steps.{air_refusal, unheard}
+use Rattle.direct_law.specs.Fits.{Fits}
 use Rattle.player.specs.Session.{chain_of}
 use Rattle.player.specs.Playable.{IsHearable, refusal_of}
 use Rattle.player.proofs.OnAir.{refusal_is}

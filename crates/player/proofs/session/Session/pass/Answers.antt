@@ -5,8 +5,8 @@ use Rattle.pdcp_pdu.specs.Pdcp.{IsPdcp}
 use Rattle.pdcp_pdu.specs.Pdcp.Pdcp.{Sdu}
 use Rattle.rlc_model.specs.declared.receiver.Heard.{Heard}
 use Rattle.rlc_model.specs.declared.receiver.Heard.TheVariants.{Complete}
-use Rattle.chain_model.specs.Chain.{Chain}
-use Rattle.chain_model.specs.Steps.{Passes}
+use Rattle.direct_model.specs.Chain.{Chain}
+use Rattle.direct_model.specs.Steps.{Passes}
 use Rattle.player.specs.Session.{chain_of}
 use Rattle.player.proofs.Passing.{passes, received}
 use Rattle.player.proofs.session.Session.pass.Goals as goal

@@ -8,10 +8,10 @@ use Rattle.rlc_model.specs.declared.receiver.Made.TheVariants.{Full}
 use Rattle.rlc_model.specs.Made.{Makes}
 use Rattle.rlc_am_rx.specs.StatusMaking.{IsTrueStatusOf}
 use Rattle.script_text.specs.declared.reply.Reply.TheVariants.{Air}
-use Rattle.chain_model.specs.Chain.{Chain}
-use Rattle.chain_model.specs.Steps.{Granted, sent}
-use Rattle.chain_law.specs.Fits.{Fits}
-use Rattle.chain_law.proofs.FitsFacts.{rx_size}
+use Rattle.direct_model.specs.Chain.{Chain}
+use Rattle.direct_model.specs.Steps.{Granted, sent}
+use Rattle.direct_law.specs.Fits.{Fits}
+use Rattle.direct_law.proofs.FitsFacts.{rx_size}
 use Rattle.player.specs.Session.{chain_of}
 use Rattle.player.proofs.session.Session.report.Goals as goal
 

@@ -4,8 +4,8 @@ use Rattle.rlc_model.specs.declared.transmitter.TxGrant.{TxGrant}
 use Rattle.rlc_model.specs.declared.transmitter.TxGrant.TheVariants.{Sent, Small}
 use Rattle.rlc_model.specs.Tx.{Tx, Grants}
 use Rattle.script_text.specs.declared.reply.Reply.TheVariants as reply
-use Rattle.chain_model.specs.Chain.{Chain}
-use Rattle.chain_model.specs.Steps.{GrantedData}
+use Rattle.direct_model.specs.Chain.{Chain}
+use Rattle.direct_model.specs.Steps.{GrantedData}
 use Rattle.player.specs.Session.{chain_of}
 use Rattle.player.proofs.session.Session.send.Goals as goal
 

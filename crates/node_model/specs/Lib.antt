@@ -1,0 +1,11 @@
+pub mod Names
+pub mod State
+pub mod Tables
+pub mod Opening
+pub mod Sides
+pub mod Ends
+pub mod Routing
+pub mod Hearing
+pub mod Feeding
+pub mod Relaying
+pub mod Switching
