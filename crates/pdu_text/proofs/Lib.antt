@@ -1,2 +1,3 @@
+pub mod PdcpFacts
 pub mod SrapFacts
 pub mod Explained

@@ -8,4 +8,5 @@ use Rattle.pdu_text.specs.declared.form.Form.TheVariants as forms
 abbrev pub form_text : Form → List ℕ
 form_text (forms.Amd size) = codes "amd" ++ size_text size
 form_text (forms.Status size) = codes "status" ++ size_text size
+form_text (forms.Pdcp size) = codes "pdcp" ++ size_text size
 form_text forms.Srap = codes "srap"

@@ -7,6 +7,9 @@ use Rattle.rlc_pdu.specs.declared.amd.Si.TheVariants.{Whole, First, Last, Middle
 use Rattle.rlc_pdu.specs.Amd.{Amd, flag}
 use Rattle.rlc_status.specs.declared.status.Nack.{Nack}
 use Rattle.rlc_status.specs.declared.status.Status.{Status}
+use Rattle.pdcp_pdu.specs.declared.pdu.PdcpFault.{PdcpFault}
+use Rattle.pdcp_pdu.specs.declared.pdu.PdcpFault.TheVariants as pdcp
+use Rattle.pdcp_pdu.specs.Pdcp.{Pdcp, Sdu, Report}
 use Rattle.srap_header.specs.declared.pdu.SrapFault.{SrapFault}
 use Rattle.srap_header.specs.declared.pdu.SrapFault.TheVariants.{Short, Control, NoBody}
 use Rattle.srap_header.specs.Srap.{Srap}
@@ -57,6 +60,22 @@ status_words status = codes "status" ∷ codes "ack" ∷ decimal status.ack ∷ 
 -- a STATUS PDU: a line of these words, and a line for each element (TS 38.322 clause 6.2.2.5)
 abbrev pub status_text : Status → List ℕ
 status_text status = line_of (status_words status) ++ flat_map nack_text status.nacks
+
+-- the fields of a PDCP data PDU, or of a status report (TS 38.323 clauses 6.2.2 and 6.2.3.1)
+abbrev pub pdcp_words : Pdcp → List (List ℕ)
+pdcp_words (Sdu sn body) = codes "sdu" ∷ codes "sn" ∷ decimal sn ∷ codes "body" ∷ hex_text body ∷ []
+pdcp_words (Report fmc map) = codes "report" ∷ codes "fmc" ∷ decimal fmc ∷ codes "map" ∷ hex_text map ∷ []
+
+-- what is shown of a PDCP PDU
+abbrev pub pdcp_text : Pdcp → List ℕ
+pdcp_text v = line_of (pdcp_words v)
+
+-- the word for what is wrong with a PDCP PDU
+abbrev pub pdcp_fault_text : PdcpFault → List ℕ
+pdcp_fault_text pdcp.Short = codes "short"
+pdcp_fault_text pdcp.ReservedType = codes "reserved-type"
+pdcp_fault_text pdcp.Empty = codes "empty"
+pdcp_fault_text pdcp.Long = codes "long"
 
 -- the fields of a SRAP data PDU (TS 38.351 clause 6.2.2)
 abbrev pub srap_words : Srap → List (List ℕ)

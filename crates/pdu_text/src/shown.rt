@@ -4,6 +4,7 @@ ghost use Rattle.pdu_text.specs.Explains.{AddsExplanation};
 
 use crate::Form;
 use crate::amd::push_shown_amd;
+use crate::pdcp::push_shown_pdcp;
 use crate::srap::push_shown_srap;
 use crate::status::push_shown_status;
 use link_base::Memory;
@@ -21,6 +22,7 @@ pub fn push_shown(alloc: Global, out: &mut String, form: Form, bytes: &[u8]) -> 
     match form {
         Form::Amd(size) => push_shown_amd(alloc, out, size, bytes),
         Form::Status(size) => push_shown_status(alloc, out, size, bytes),
+        Form::Pdcp(size) => push_shown_pdcp(alloc, out, size, bytes),
         Form::Srap => push_shown_srap(alloc, out, bytes),
     }
 }

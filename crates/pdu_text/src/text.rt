@@ -14,7 +14,15 @@ pub(crate) fn push_body(alloc: Global, out: &mut String, body: &[u8]) -> Result<
         ++ spaced (codes "body" ∷ hex_text body.now ∷ []) ++ 10 ∷ []) }
 {
     out.push_str(" body ")?;
-    push_hex(alloc, out, body)?;
+    push_octets(alloc, out, body)
+}
+
+/// Adds octets, with which their line ends.
+pub(crate) fn push_octets(alloc: Global, out: &mut String, octets: &[u8]) -> Result<(), AllocError>
+    ensures { OnOk result
+        (string_bytes out.new ≡ string_bytes out.old ++ hex_text octets.now ++ 10 ∷ []) }
+{
+    push_hex(alloc, out, octets)?;
     out.push_str("\n")
 }
 

@@ -81,8 +81,8 @@ show amd12 zz
 show amd12 000
 show amd12 -
 show amd12 
-show pdcp12 00
-show pdcp18 0000000000c0";
+show pdcp 800061
+show pdcp12 -";
 
 #[test]
 fn words_that_ask_for_nothing(rt: HostRuntime) -> Result<(), Fail> {
@@ -100,6 +100,9 @@ show amd12 c00080006869|amd sn 0 poll 1 si whole so 0 body 80006869
 show amd12 C00080006869|amd sn 0 poll 1 si whole so 0 body 80006869
 show amd18 b0000300036566|amd sn 3 poll 0 si middle so 3 body 6566
 show srap 800580006869|srap bearer 0 ue 5 body 80006869
+show pdcp12 80006869|sdu sn 0 body 6869
+show pdcp12 0000000000c0|report fmc 0 map c0
+show pdcp18 0000000001|report fmc 1 map -
 show status12 0003800010|status ack 3 nacks 1|nack 1 part - range -
 show status18 000012000068020000d000030004|status ack 4 nacks 2|nack 1 part - range 2|nack 3 part 3-4 range -";
 
@@ -107,6 +110,8 @@ const REFUSED: &str = "\
 show amd12 00|refused control
 show status12 00|refused short
 show status12 80|refused is-data
+show pdcp12 10|refused reserved-type
+show pdcp18 80|refused short
 show srap 8005|refused no-body";
 
 #[test]

@@ -12,7 +12,9 @@ amd18|Some(Amd(S18))
 status12|Some(Status(S12))
 status18|Some(Status(S18))
 srap|Some(Srap)
-pdcp12|None
+pdcp12|Some(Pdcp(S12))
+pdcp18|Some(Pdcp(S18))
+pdcp|None
 amd|None
 AMD12|None
 |None";
@@ -73,6 +75,13 @@ status12 0fff00|status ack 4095 nacks 0
 status12 002080001a030ffe0009000402abc40000ffff|status ack 32 nacks 3|nack 1 part - range 3|nack 255 part 9-4 range 2|nack 2748 part 0-65535 range -
 status18 0ffffd|status ack 262143 nacks 0
 status18 00000e0001e080c11812345678ff|status ack 3 nacks 2|nack 7 part - range -|nack 131844 part 4660-22136 range 255
+pdcp12 80006869|sdu sn 0 body 6869
+pdcp12 ffff61|sdu sn 4095 body 61
+pdcp18 81000161|sdu sn 65537 body 61
+pdcp18 ff020300|sdu sn 197123 body 00
+pdcp12 0000000000c0|report fmc 0 map c0
+pdcp12 0f01020304|report fmc 16909060 map -
+pdcp18 00ffffffff0102|report fmc 4294967295 map 0102
 srap 800580006869|srap bearer 0 ue 5 body 80006869
 srap ffff00|srap bearer 31 ue 255 body 00";
 
@@ -100,6 +109,14 @@ status18 700000|refused reserved-type
 status18 00000200004800|refused zero-range
 status18 00000200005000050004|refused back-part
 status18 0000000f|refused trailing
+pdcp12 -|refused short
+pdcp12 80|refused short
+pdcp12 10|refused reserved-type
+pdcp12 7fffffffff|refused reserved-type
+pdcp12 00000000|refused short
+pdcp12 8000|refused empty
+pdcp18 8000|refused short
+pdcp18 800000|refused empty
 srap -|refused short
 srap 80|refused short
 srap 050561|refused control
