@@ -1,0 +1,5 @@
+pub mod Reported
+pub mod Kept
+pub mod Sound
+pub mod Inside
+pub mod Calls
