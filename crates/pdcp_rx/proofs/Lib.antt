@@ -1,0 +1,5 @@
+pub mod Bits
+pub mod Reports
+pub mod Runs
+pub mod Soundness
+pub mod Stores

@@ -1,0 +1,3 @@
+pub mod Receiver
+pub mod Store
+pub mod Reporting
