@@ -1,5 +1,5 @@
 // The receiving side of a PDCP entity.
-ghost use Rattle.std.specs.Prelude.{◌≡◌, ◌≢◌, ◌+◌, ◌<◌, true, None, All, IfOk, OnErr, OnOk};
+ghost use Rattle.std.specs.Prelude.{◌≡◌, ◌≢◌, ◌+◌, ◌<◌, true, None, All, IfOk, IsOk, OnErr, OnOk};
 ghost use Rattle.std.specs.Bool.{MatchBool};
 ghost use Rattle.link_base.specs.declared.limits.TheConstants.{COUNT_END};
 ghost use Rattle.link_base.specs.SequenceNumbers.{modulus};
@@ -46,10 +46,12 @@ impl Model for PdcpRx {
 }
 
 impl PdcpRx {
-    /// A receiving side that has heard nothing, of a bearer whose first COUNT this is, with SNs of this size.
+    /// A receiving side that has heard nothing, of a bearer whose first COUNT this is, with SNs of this size. It takes no
+    /// memory.
     pub fn new(alloc: Global, size: SnSize, first: u32) -> Result<Self, Memory>
         requires { first < COUNT_END }
-        ensures { IfOk result (λ rx. rx ≡ new_receiver size first) }
+        ensures ok { IfOk result (λ rx. rx ≡ new_receiver size first) }
+        ensures made { IsOk result }
     {
         Ok(PdcpRx {
             alloc,

@@ -1,0 +1,3 @@
+pub mod Hearings
+pub mod HandUps
+pub mod Submitted
