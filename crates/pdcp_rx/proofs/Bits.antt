@@ -1,7 +1,7 @@
 -- Octets made of bits.
 use mir.Val.{bool_byte}
-use Rattle.std.proofs.Common.{◌≡◌, ℕ, zero, suc, ◌+◌, ◌-◌, ◌*◌, ◌/◌, ◌%◌, ◌^◌, ◌<◌, ◌≤◌, Bool, true, false, if◌then◌else◌, List, Option, arith}
-use Rattle.std.proofs.Math.Nat.{pow-suc}
+use Rattle.std.proofs.Common.{◌≡◌, ℕ, zero, suc, ◌+◌, ◌*◌, ◌/◌, ◌%◌, ◌^◌, ◌<◌, ◌≤◌, Bool, true, false, if◌then◌else◌, List, Option, sym, ◌∙◌, ap, arith}
+use Rattle.std.proofs.Math.Nat.{pow-suc, div-div-eq-div-mul}
 use Rattle.std.proofs.Math.Pow.{pow_mono}
 use Rattle.pdcp_rx.specs.Store.{waits, bits_from}
 
@@ -21,30 +21,24 @@ bits_short stored from n lt =
     let le : n ≤ 7 = omega (arith, lt) in
     omega (arith, bits_below stored from n, pow_mono {i = n} {j = 7} le)
 
--- of eight bits as a number each is read behind a power of 2
-read_eight : (a b c d e f g h : ℕ) → a < 2 → b < 2 → c < 2 → d < 2 → e < 2 → f < 2 → g < 2 → h < 2
-    → let v = 2 * (2 * (2 * (2 * (2 * (2 * (2 * (2 * 0 + a) + b) + c) + d) + e) + f) + g) + h in
-    (v / 128 % 2 ≡ a) × (v / 64 % 2 ≡ b) × (v / 32 % 2 ≡ c) × (v / 16 % 2 ≡ d) × (v / 8 % 2 ≡ e) × (v / 4 % 2 ≡ f) × (v / 2 % 2 ≡ g) × (v / 1 % 2 ≡ h)
-read_eight a b c d e f g h pa pb pc pd pe pf pg ph = (omega arith, omega arith, omega arith, omega arith, omega arith, omega arith, omega arith, omega arith)
+-- without its last bit a number is half of it
+half : (x b : ℕ) → b < 2 → (2 * x + b) / 2 ≡ x
+half x b lt = omega arith
 
--- the eight bits of an octet
-eight : (stored : List (Option (List ℕ))) (from : ℕ) → let bit = λ (k : ℕ). if◌then◌else◌ {A = ℕ} (waits stored (from + k)) 1 0 in let v = bits_from stored from 8 in
-    (v / 128 % 2 ≡ bit 0) × (v / 64 % 2 ≡ bit 1) × (v / 32 % 2 ≡ bit 2) × (v / 16 % 2 ≡ bit 3) × (v / 8 % 2 ≡ bit 4) × (v / 4 % 2 ≡ bit 5) × (v / 2 % 2 ≡ bit 6) × (v / 1 % 2 ≡ bit 7)
-eight stored from =
-    let small = λ (k : ℕ). bit_small (waits stored (from + k)) in
-    read_eight _ _ _ _ _ _ _ _ (small 0) (small 1) (small 2) (small 3) (small 4) (small 5) (small 6) (small 7)
-
--- a bit of eight tells whether an SDU waits at its place
-pub bit_read : (stored : List (Option (List ℕ))) (from k : ℕ) → k < 8 → bits_from stored from 8 / 2 ^ (7 - k) % 2 ≡ (if waits stored (from + k) then 1 else 0)
-bit_read stored from zero lt = (eight stored from).0
-bit_read stored from (suc zero) lt = (eight stored from).1
-bit_read stored from (suc (suc zero)) lt = (eight stored from).2
-bit_read stored from (suc (suc (suc zero))) lt = (eight stored from).3
-bit_read stored from (suc (suc (suc (suc zero)))) lt = (eight stored from).4
-bit_read stored from (suc (suc (suc (suc (suc zero))))) lt = (eight stored from).5
-bit_read stored from (suc (suc (suc (suc (suc (suc zero)))))) lt = (eight stored from).6
-bit_read stored from (suc (suc (suc (suc (suc (suc (suc zero))))))) lt = (eight stored from).7
-bit_read stored from (suc (suc (suc (suc (suc (suc (suc (suc k)))))))) lt = absurd (omega arith)
+-- of n bits as a number, that of the place k has n - 1 - k behind it, and tells whether an SDU waits there
+pub bit_read : (stored : List (Option (List ℕ))) (from n k behind : ℕ) → n ≡ k + 1 + behind → bits_from stored from n / 2 ^ behind % 2 ≡ (if waits stored (from + k) then 1 else 0)
+bit_read stored from zero k behind e = absurd (omega arith)
+bit_read stored from (suc n) k zero e =
+    let last : n ≡ k = omega (arith, e) in
+    let rest : (2 * bits_from stored from n + (if waits stored (from + n) then 1 else 0)) / 2 ^ 0 % 2 ≡ (if waits stored (from + n) then 1 else 0) = omega (arith, bit_small (waits stored (from + n))) in
+    rest ∙ ap (λ (i : ℕ). if◌then◌else◌ {A = ℕ} (waits stored (from + i)) 1 0) last
+bit_read stored from (suc n) k (suc behind) e =
+    let x = bits_from stored from n in
+    let y = bits_from stored from (suc n) in
+    let pow : 2 ^ suc behind ≡ 2 * 2 ^ behind = omega (arith, pow-suc 2 behind) in
+    let shorter : y / 2 ^ suc behind ≡ x / 2 ^ behind =
+    ap (λ (p : ℕ). y / p) pow ∙ sym (div-div-eq-div-mul y 2 (2 ^ behind)) ∙ ap (λ (q : ℕ). q / 2 ^ behind) (half x _ (bit_small (waits stored (from + n)))) in
+    ap (λ (q : ℕ). q % 2) shorter ∙ bit_read stored from n k behind (omega (arith, e))
 
 -- a flag as a number is 0 or 1
 pub flag_small : (b : Bool) (n : ℕ) → n ≡ bool_byte b → n < 2

@@ -28,7 +28,7 @@ bit_where_stored stored map is n from = elim (cases_lt ((n - 1) / 8) (length map
       let at : 8 * ((n - 1) / 8) + 1 + (n - 1) % 8 ≡ n = omega (arith, from) in
       let octet = is.octets ((n - 1) / 8) lt in
       let bit : bit_of map n ≡ (if waits stored n then 1 else 0) =
-      ap (λ (o : ℕ). o / 2 ^ (7 - (n - 1) % 8) % 2) octet ∙ bit_read stored (8 * ((n - 1) / 8) + 1) ((n - 1) % 8) k ∙ ap (λ (m : ℕ). if waits stored m then 1 else 0) at in
+      ap (λ (o : ℕ). o / 2 ^ (7 - (n - 1) % 8) % 2) octet ∙ bit_read stored (8 * ((n - 1) / 8) + 1) 8 ((n - 1) % 8) (7 - (n - 1) % 8) (omega (arith, k)) ∙ ap (λ (m : ℕ). if waits stored m then 1 else 0) at in
       let one = one_where_some (get_or stored n None) in
       (λ e. one.0 (sym bit ∙ e), λ some. bit ∙ one.1 some)
   | inr le ↦
