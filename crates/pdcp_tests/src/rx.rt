@@ -1,4 +1,5 @@
 // Calls on a receiving side, each beside what it answers.
+use crate::rows::call_and_answer;
 use link_base::SnSize::{self, S12, S18};
 use pdcp_rx::{PdcpHeard, PdcpRx};
 use std::alloc::Global;
@@ -117,9 +118,7 @@ fn expect_rows(
     assert!(rt; first < u32::MAX);
     let mut rx = PdcpRx::new(alloc, size, first)?;
     for row in rows.split('\n') {
-        let Some((call, want)) = row.split_once('|') else {
-            panic!(rt; "a row without a bar");
-        };
+        let (call, want) = call_and_answer(rt, row);
         let said = said(rt, alloc, &mut rx, call)?;
         assert_eq!(rt; said.as_str(), want, "{call}");
     }
