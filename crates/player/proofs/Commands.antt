@@ -1,45 +1,44 @@
 -- What words ask for is one thing.
-use Rattle.std.proofs.Common.{◌≡◌, ◌≢◌, ℕ, ◌<◌, ◌≤◌, map, List, [], ◌∷◌, length, get_or, codes, Result, Ok, refl, sym, ◌∙◌, ap, subst, arith, inl, inr}
+use Rattle.std.proofs.Common.{◌≡◌, ℕ, ◌<◌, ◌≤◌, ◌-◌, ◌==◌, if◌then◌else◌, map, List, [], ◌∷◌, length, get_or, codes, Result, Ok, refl, sym, ◌∙◌, ap, subst, arith, inl, inr}
+use Rattle.link_base.specs.declared.names.SnSize.{SnSize}
 use Rattle.link_base.specs.declared.names.SnSize.TheVariants.{S12, S18}
 use Rattle.pdu_text.specs.declared.form.Form.{Form}
-use Rattle.pdu_text.specs.declared.form.Form.TheVariants.{Amd, Status, Srap}
+use Rattle.pdu_text.specs.declared.form.Form.TheVariants.{Amd, Status, Pdcp, Srap}
 use Rattle.pdu_text.specs.Forms.{form_text}
 use Rattle.script_text.specs.Words.{IsHex}
 use Rattle.player.specs.declared.command.Command.{Command}
 use Rattle.player.specs.declared.command.Command.TheVariants.{Play, Show, Other}
 use Rattle.player.specs.Commands.{IsPlay, IsShow, SpellsBytes, IsCommand, IsShowOf}
 
--- texts that differ at a place are two
-differ : {P : Type 0} (a b : List ℕ) (k : ℕ) → get_or a k 0 ≢ get_or b k 0 → a ≡ b → P
-differ a b k ne e = absurd (ne (ap (λ (l : List ℕ). get_or l k 0) e))
+-- the size that a form's last character tells
+abbrev size_by : ℕ → SnSize
+size_by last = if last == 50 then S12 else S18
+
+-- the form that a name's second and last character tell
+abbrev form_by : ℕ → ℕ → Form
+form_by second last =
+    if second == 109 then Amd (size_by last)
+    else if second == 116 then Status (size_by last)
+    else if second == 100 then Pdcp (size_by last)
+    else Srap
+
+-- the form with a name
+abbrev form_named : List ℕ → Form
+form_named name = form_by (get_or name 1 0) (get_or name (length name - 1) 0)
+
+-- it is the form whose name it is
+names_form : (f : Form) → form_named (form_text f) ≡ f
+names_form (Amd S12) = refl
+names_form (Amd S18) = refl
+names_form (Status S12) = refl
+names_form (Status S18) = refl
+names_form (Pdcp S12) = refl
+names_form (Pdcp S18) = refl
+names_form Srap = refl
 
 -- a form has a name of its own
 pub one_form : (f g : Form) → form_text f ≡ form_text g → f ≡ g
-one_form (Amd S12) (Amd S12) e = refl
-one_form (Amd S18) (Amd S18) e = refl
-one_form (Status S12) (Status S12) e = refl
-one_form (Status S18) (Status S18) e = refl
-one_form Srap Srap e = refl
-one_form (Amd S12) (Amd S18) e = differ _ _ 4 (λ x. omega (arith, x)) e
-one_form (Amd S18) (Amd S12) e = differ _ _ 4 (λ x. omega (arith, x)) e
-one_form (Status S12) (Status S18) e = differ _ _ 7 (λ x. omega (arith, x)) e
-one_form (Status S18) (Status S12) e = differ _ _ 7 (λ x. omega (arith, x)) e
-one_form (Amd S12) (Status S12) e = differ _ _ 0 (λ x. omega (arith, x)) e
-one_form (Amd S12) (Status S18) e = differ _ _ 0 (λ x. omega (arith, x)) e
-one_form (Amd S18) (Status S12) e = differ _ _ 0 (λ x. omega (arith, x)) e
-one_form (Amd S18) (Status S18) e = differ _ _ 0 (λ x. omega (arith, x)) e
-one_form (Status S12) (Amd S12) e = differ _ _ 0 (λ x. omega (arith, x)) e
-one_form (Status S12) (Amd S18) e = differ _ _ 0 (λ x. omega (arith, x)) e
-one_form (Status S18) (Amd S12) e = differ _ _ 0 (λ x. omega (arith, x)) e
-one_form (Status S18) (Amd S18) e = differ _ _ 0 (λ x. omega (arith, x)) e
-one_form (Amd S12) Srap e = differ _ _ 0 (λ x. omega (arith, x)) e
-one_form (Amd S18) Srap e = differ _ _ 0 (λ x. omega (arith, x)) e
-one_form Srap (Amd S12) e = differ _ _ 0 (λ x. omega (arith, x)) e
-one_form Srap (Amd S18) e = differ _ _ 0 (λ x. omega (arith, x)) e
-one_form (Status S12) Srap e = differ _ _ 1 (λ x. omega (arith, x)) e
-one_form (Status S18) Srap e = differ _ _ 1 (λ x. omega (arith, x)) e
-one_form Srap (Status S12) e = differ _ _ 1 (λ x. omega (arith, x)) e
-one_form Srap (Status S18) e = differ _ _ 1 (λ x. omega (arith, x)) e
+one_form f g e = sym (names_form f) ∙ ap form_named e ∙ names_form g
 
 -- a word spells one string of bytes
 pub one_bytes : (word b c : List ℕ) → SpellsBytes word b → SpellsBytes word c → b ≡ c
