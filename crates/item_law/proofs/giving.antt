@@ -1,0 +1,4 @@
+pub mod Senders
+pub mod Added
+pub mod Gives
+pub mod Injected

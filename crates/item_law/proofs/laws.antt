@@ -1,0 +1,5 @@
+pub mod LiveItems
+pub mod OneCopy
+pub mod Identities
+pub mod Handed
+pub mod Recovered

@@ -1,0 +1,4 @@
+pub mod Moves
+pub mod AtRelay
+pub mod AtEnd
+pub mod Arrives

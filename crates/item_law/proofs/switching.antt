@@ -1,0 +1,4 @@
+pub mod Plans
+pub mod Opening
+pub mod Applying
+pub mod Closing
