@@ -1,0 +1,75 @@
+-- Each line of a run keeps what holds of a chain.
+use Rattle.std.proofs.Common.{List, [], ◌∷◌, Option, Some, None, sym, subst}
+use Rattle.bearer_map.specs.Contents.{nothing}
+use Rattle.rlc_model.specs.Hop.{on_air}
+use Rattle.script_text.specs.declared.event.Event.{Event}
+use Rattle.script_text.specs.declared.line.Line.{Line}
+use Rattle.script_text.specs.declared.line.Line.TheVariants.{Submit, Grant, Deliver, Repeat, Lose, Stage, Expire, Push, Pull, Burst, Report, Plan as PlanLine, Apply, Drain, End}
+use Rattle.script_text.specs.declared.reply.Reply.{Reply}
+use Rattle.script_text.specs.declared.stage.Part.{Part}
+use Rattle.script_text.specs.declared.stage.Part.TheVariants.{Start as AtStart, Tables, Running, Ended}
+use Rattle.script_text.specs.declared.stage.ScriptStage.{ScriptStage}
+use Rattle.script_text.specs.History.{Entry}
+use Rattle.script_text.specs.Lines.{part_of}
+use Rattle.chain_model.specs.Draining.{Moment, IsRun, drain_refusal}
+use Rattle.chain_model.specs.Lines.{submit_refusal, grant_refusal, without, stage_refusal, expire_refusal, report_refusal, plan_refusal, apply_refusal}
+use Rattle.chain_model.specs.Runs.{Turn, LeadsTo, Behaves, DrainsUnless, Turns, contents}
+use Rattle.chain_model.specs.State.{Chain}
+use Rattle.chain_model.specs.Steps.{Does, Step}
+use Rattle.chain_law.proofs.Applying.{applies_hold}
+use Rattle.chain_law.proofs.Bursts.{bursts_hold}
+use Rattle.chain_law.proofs.Chains.{Holds, feeds_hold, off_holds}
+use Rattle.chain_law.proofs.Hearing.{delivers_hold}
+use Rattle.chain_law.specs.Foundations.{RlcLaws}
+use Rattle.chain_law.proofs.Lines.{unless_holds, submits_hold, granted_holds, loses_hold, stages_hold, expires_hold, pushes_hold, pulls_hold, wants_hold, plans_hold}
+use Rattle.chain_law.proofs.Opened.{opened_holds}
+use Rattle.chain_law.proofs.Tables.{TablesApart, nothing_apart, stage_apart}
+
+module _ (l : RlcLaws) where
+  does_hold : (old : Chain) (line : Line) (events : List Event) (reply : Reply) (new : Chain) → Holds old → Does old line events reply new → Holds new
+  does_hold old (Submit key sdu) events reply new h d = unless_holds (submit_refusal old key) old events reply new _ h (λ none done. submits_hold l old key sdu events reply new h done) d
+  does_hold old (Grant port way octets) events reply new h d = unless_holds (grant_refusal old port way) old events reply new _ h (λ none done. granted_holds l old port way octets events reply new h none done) d
+  does_hold old (Deliver ticket) events reply new h d = delivers_hold l old ticket events reply new (without ticket) (λ c h. off_holds l c ticket h) h d
+  does_hold old (Repeat ticket) events reply new h d = delivers_hold l old ticket events reply new (λ c. c) (λ c h. h) h d
+  does_hold old (Lose ticket) events reply new h d = loses_hold l old (on_air old.air ticket) ticket events reply new h d
+  does_hold old (Stage ticket) events reply new h d = unless_holds (stage_refusal (on_air old.air ticket)) old events reply new _ h (λ none done. stages_hold l old ticket events reply new h done) d
+  does_hold old (Expire port at timer) events reply new h d = unless_holds (expire_refusal old port at) old events reply new _ h (λ none done. expires_hold l old port at timer events reply new h done) d
+  does_hold old (Push port) events reply new h d = pushes_hold l old port events reply new h d
+  does_hold old (Pull port) events reply new h d = pulls_hold l old port events reply new h d
+  does_hold old Burst events reply new h d = bursts_hold l old events reply new h d
+  does_hold old (Report key) events reply new h d = unless_holds (report_refusal old key) old events reply new _ h (λ none done. wants_hold l old key events reply new h done) d
+  does_hold old (PlanLine remote goal) events reply new h d = unless_holds (plan_refusal old remote goal) old events reply new _ h (λ none done. plans_hold old remote goal events reply new h done) d
+  does_hold old (Apply remote kind) events reply new h d = unless_holds (apply_refusal old remote kind) old events reply new _ h (λ none done. applies_hold l old remote kind events reply new h none done) d
+  does_hold old line events reply new h d = absurd d
+
+  -- a line, and then the nodes feed
+  pub step_holds : (old : Chain) (line : Line) (events : List Event) (reply : Reply) (new : Chain) → Holds old → Step old line events reply new → Holds new
+  step_holds old line events reply new h s = subst Holds (sym s.is) (feeds_hold l s.mid s.given s.nodes (does_hold old line s.own reply s.mid h s.does) s.feeds)
+
+  -- the lines of a drain
+  run_holds : (first : Chain) (moments : List Moment) (last : Chain) → Holds first → IsRun first moments last → Holds last
+  run_holds first [] last h r = subst Holds (sym r) h
+  run_holds first (m ∷ ms) last h r = step_holds m.before m.entry.line m.entry.events m.entry.reply last (run_holds first ms m.before h r.0) r.1
+
+  drains_hold : (refusal : Option Reply) (old : Chain) (inner : List Entry) (reply : Reply) (new : Chain) → Holds old → DrainsUnless refusal old inner reply new → Holds new
+  drains_hold (Some r) old inner reply new h d = subst Holds (sym d.2) h
+  drains_hold None old inner reply new h d = run_holds old d.moments new h d.is_drain.run
+
+  behaves_hold : (old : Chain) (inner : List Entry) (line : Line) (events : List Event) (reply : Reply) (new : Chain) → Holds old → Behaves old inner line events reply new → Holds new
+  behaves_hold old inner Drain events reply new h b = drains_hold (drain_refusal old) old inner reply new h b.1
+  behaves_hold old inner End events reply new h b = subst Holds (sym b.3) h
+  behaves_hold old inner line events reply new h b = step_holds old line events reply new h b.1
+
+  turns_hold : (part : Part) (stage : ScriptStage) (old : Chain) (t : Turn) (new : Chain) → TablesApart (contents stage) → Holds old → Turns part stage old t new → Holds new
+  turns_hold Running stage old t new apart h x = behaves_hold old t.inner t.entry.line t.entry.events t.entry.reply new h x
+  turns_hold AtStart stage old t new apart h x = subst Holds (sym x.3) (opened_holds (contents stage) apart)
+  turns_hold Tables stage old t new apart h x = subst Holds (sym x.3) (opened_holds (contents stage) apart)
+  turns_hold Ended stage old t new apart h x = subst Holds (sym x.3) (opened_holds (contents stage) apart)
+
+  -- behind each run, with the tables that its lines declared
+  pub runs_hold : (h : List Turn) (stage : ScriptStage) (c : Chain) → LeadsTo h stage c → TablesApart (contents stage) × Holds c
+  runs_hold [] stage c is = (subst (λ (s : ScriptStage). TablesApart (contents s)) (sym is.0) nothing_apart, subst Holds (sym is.1) (opened_holds nothing nothing_apart))
+  runs_hold (t ∷ h) stage c is =
+      let before = runs_hold h is.0 is.1 is.2 in
+      let apart = stage_apart is.0 t.entry.line stage before.0 is.3.enters in
+      (apart, turns_hold (part_of t.entry.line) stage is.1 t c apart before.1 is.4)

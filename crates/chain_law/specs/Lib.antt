@@ -1,0 +1,3 @@
+pub mod Foundations
+pub mod Entities
+pub mod Laws
