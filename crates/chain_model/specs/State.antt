@@ -10,7 +10,7 @@ use Rattle.rlc_model.specs.declared.hop.Pdu.{Pdu}
 use Rattle.rlc_model.specs.Sides.{Entity}
 use Rattle.pdcp_model.specs.Sender.{Sender}
 use Rattle.node_model.specs.Names.{NodeName, is_node, is_remote, owner, source, sink, replaced}
-use Rattle.node_model.specs.State.{Incoming, Node, entity_at, outgoing, incoming, set_outgoing, set_incoming}
+use Rattle.node_model.specs.State.{Incoming, Node, no_node, entity_at, outgoing, incoming, set_outgoing, set_incoming}
 use Rattle.node_model.specs.Opening.{new_remote, new_relay, new_gnb}
 use Rattle.chain_model.specs.declared.plan.Plan.{Plan}
 
@@ -22,10 +22,6 @@ pub record Chain : Type 0 where
   pub plans : List Plan
   pub air : List (Option Pdu)
   pub staged : List ℕ
-
--- a node that has nothing, which stands for one that isn't there
-abbrev pub no_node : NodeName → Node
-no_node name = record { name = name; ports = []; attached = []; outgoing = []; incoming = [] }
 
 -- the node of this name
 abbrev pub node_at : Chain → NodeName → Node

@@ -23,8 +23,7 @@ use Rattle.script_text.specs.History.{Entry}
 use Rattle.rlc_model.specs.Sides.{sender_of}
 use Rattle.rlc_model.specs.Hop.{sent_from}
 use Rattle.node_model.specs.Names.{NodeName, AtRemote, AtRelay, AtGnb, is_remote, owner}
-use Rattle.node_model.specs.State.{Node}
-use Rattle.chain_model.specs.State.{no_node}
+use Rattle.node_model.specs.State.{Node, no_node}
 use Rattle.node_model.specs.Opening.{attachments}
 
 -- the path of a row of the tables
