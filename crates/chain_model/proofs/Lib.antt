@@ -1,0 +1,9 @@
+pub mod Sending
+pub mod Receiving
+pub mod Fed
+pub mod Acts
+pub mod WorkedChain
+pub mod OverRelay
+pub mod Switched
+pub mod Lost
+pub mod OverDirect
