@@ -1,0 +1,9 @@
+pub mod Relaying
+pub mod Reports
+pub mod Feeding
+pub mod Targets
+pub mod AtEnds
+pub mod AtPorts
+pub mod Alike
+pub mod Hearing
+pub mod FeedingAlike
