@@ -24,12 +24,12 @@ use Rattle.pdcp_model.specs.Sender.{begins_wait}
 use Rattle.script_text.specs.declared.event.Event.{Event}
 use Rattle.script_text.specs.declared.reply.Reply.{Reply}
 use Rattle.node_model.specs.Names.{NodeName, AtRemote, is_node, is_port, is_remote, is_of, owner, node_of}
-use Rattle.node_model.specs.State.{PortSide, Outgoing, Node, side_at, entity_of}
+use Rattle.node_model.specs.State.{PortSide, Outgoing, Node, side_at, entity_of, no_node}
 use Rattle.node_model.specs.Tables.{settings, is_open_on}
 use Rattle.node_model.specs.Opening.{new_entity}
 use Rattle.node_model.specs.Switching.{is_purged, side_after, outgoing_after, node_after, node_closed}
 use Rattle.chain_model.specs.declared.plan.Plan.{Plan}
-use Rattle.chain_model.specs.State.{Chain, no_node, node_at, set_node, plan_at, set_plan}
+use Rattle.chain_model.specs.State.{Chain, node_at, set_node, plan_at, set_plan}
 use Rattle.chain_model.specs.Plans.{has_applied, marks, is_open}
 use Rattle.chain_model.specs.Told.{kind_of}
 use Rattle.chain_model.specs.Lines.{apply_refusal, node_refusal, Applies, closed}

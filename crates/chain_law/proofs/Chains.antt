@@ -11,9 +11,9 @@ use Rattle.link_base.specs.declared.names.Side.{Side}
 use Rattle.bearer_map.specs.Contents.{Contents}
 use Rattle.rlc_model.specs.declared.hop.Pdu.{Pdu}
 use Rattle.node_model.specs.Names.{NodeName, is_node, is_of, owner}
-use Rattle.node_model.specs.State.{PortSide, Node, side_at}
+use Rattle.node_model.specs.State.{PortSide, Node, side_at, no_node}
 use Rattle.chain_model.specs.declared.plan.Plan.{Plan}
-use Rattle.chain_model.specs.State.{Chain, no_node, node_at, set_node, plan_at}
+use Rattle.chain_model.specs.State.{Chain, node_at, set_node, plan_at}
 use Rattle.chain_model.specs.Lines.{without}
 use Rattle.chain_model.specs.Steps.{FeedsAll}
 use Rattle.chain_model.specs.Told.{kind_of}

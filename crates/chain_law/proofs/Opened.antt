@@ -27,11 +27,11 @@ use Rattle.rlc_model.specs.Sides.{Entity}
 use Rattle.rlc_law.specs.Ports.{Port, Ports, start_port, ReachesPort, hop_of, IsSide}
 use Rattle.rlc_law.specs.Sides.{HasSize, start_entity}
 use Rattle.node_model.specs.Names.{NodeName, is_node, is_port, is_remote, is_of, owner}
-use Rattle.node_model.specs.State.{PortSide, Node, side_at, entity_of}
+use Rattle.node_model.specs.State.{PortSide, Node, side_at, entity_of, no_node}
 use Rattle.node_model.specs.Tables.{settings, is_open_on}
 use Rattle.node_model.specs.Opening.{new_entity, new_side, direct_side, pc5_side, uu_side, bearers_of, pc5s_of, new_outgoing, new_remote, new_relay, new_gnb}
 use Rattle.chain_model.specs.declared.plan.Plan.{Plan}
-use Rattle.chain_model.specs.State.{no_node, first_plan, opened}
+use Rattle.chain_model.specs.State.{first_plan, opened}
 use Rattle.chain_law.specs.Entities.{direct_size, pc5_size, uu_size, port_size, port_settings, next_epoch}
 use Rattle.chain_law.proofs.Names.{port_is}
 use Rattle.chain_law.proofs.Finding.{find_passes, find_append, find_flat, find_map, find_picked, each_found, each_append, each_made, each_map, each_flat}
