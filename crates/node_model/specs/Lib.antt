@@ -9,3 +9,5 @@ pub mod Hearing
 pub mod Feeding
 pub mod Relaying
 pub mod Switching
+pub mod Rows
+pub mod Laws

@@ -8,7 +8,9 @@
 #![tactic(auto)]
 
 mod answers;
+mod laws;
 mod parcel;
 
 pub use answers::{NodeHeard, PortGrant, PullReply, PushReply};
+pub use laws::one_row_has_a_name;
 pub use parcel::Parcel;

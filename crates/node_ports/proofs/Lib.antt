@@ -1,0 +1,5 @@
+pub mod Before
+pub mod Places
+pub mod Steps
+mod Ordered
+pub mod Opened

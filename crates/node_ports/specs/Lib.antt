@@ -1,0 +1,5 @@
+pub mod Entities
+pub mod Sides
+pub mod Order
+pub mod Table
+pub mod Calls

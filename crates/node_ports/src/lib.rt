@@ -1,0 +1,11 @@
+//! The sides of ports that a node of a sidelink relay chain has (TS 38.300 clause 16.12), be it a remote, the relay
+//! or the gNB. Each side that is open has an RLC entity in acknowledged mode (TS 38.322).
+#![tactic(auto)]
+
+mod entity;
+mod opening;
+mod order;
+mod ports;
+mod side;
+
+pub use ports::Ports;
