@@ -52,7 +52,8 @@ module _ (m n : Node) (e : SameNode m n) where
   is_open_too : (port : PortName) (s : PortSide) (x : Entity) → IsOpen m port s x → (r : PortSide) × (y : Entity) × IsOpen n port r y × SameSide s r × SameEntity x y
   is_open_too port s x its = there (side_at n port) refl (subst (λ (o : Option PortSide). SameFound o (side_at n port)) its.here (found port m.ports n.ports e.ports))
     where
-      its_entity : (r : PortSide) → side_at n port ≡ Some r → SameSide s r → (o : Option Entity) → r.entity ≡ o → SameOpen (Some x) o → (r : PortSide) × (y : Entity) × IsOpen n port r y × SameSide s r × SameEntity x y
+      its_entity : (r : PortSide) → side_at n port ≡ Some r → SameSide s r → (o : Option Entity) → r.entity ≡ o → SameOpen (Some x) o
+          → (r : PortSide) × (y : Entity) × IsOpen n port r y × SameSide s r × SameEntity x y
       its_entity r here same None is both = absurd both
       its_entity r here same (Some y) is both = (r, y, record { here = here; is_open = is }, same, both)
 
@@ -111,7 +112,8 @@ module _ (m n : Node) (e : SameNode m n) where
               (subst (λ (z : Tx). Gives z tag (under (id_at m key.remote) key.drb pdu) p.number p.tx) its.4.tx p.gives);
           is = refl;
         },
-        subst (λ (z : Node). SameNode z n') (sym p.is) (side_set m n e (record p.side { entity = Some (record p.entity { tx = p.tx }) }) (record its.0 { entity = Some (record its.1 { tx = p.tx }) })
+        subst (λ (z : Node). SameNode z n') (sym p.is) (side_set m n e (record p.side { entity = Some (record p.entity { tx = p.tx }) })
+            (record its.0 { entity = Some (record its.1 { tx = p.tx }) })
             (record { name = its.3.name; size = its.3.size; slot = its.3.slot; queue = its.3.queue; entity = record { epoch = its.4.epoch; tx = refl; rx = its.4.rx } })),
       )
 
@@ -165,7 +167,8 @@ module _ (m n : Node) (e : SameNode m n) where
       )
 
 -- reports about a list of keys are given alike
-abouts_too : (t : Contents) (keys : List Key) (m n : Node) → SameNode m n → (g : List Key) (m' : Node) → FeedsReports t m keys g m' → (n' : Node) × FeedsReports t n keys g n' × SameNode m' n'
+abouts_too : (t : Contents) (keys : List Key) (m n : Node) → SameNode m n → (g : List Key) (m' : Node) → FeedsReports t m keys g m'
+    → (n' : Node) × FeedsReports t n keys g n' × SameNode m' n'
 abouts_too t [] m n e g m' p = (n, (p.0, refl), subst (λ (z : Node). SameNode z n) (sym p.1) e)
 abouts_too t (key ∷ keys) m n e g m' p =
     let first = about_too m n e t (incoming m key) p.0 p.2 p.3 in

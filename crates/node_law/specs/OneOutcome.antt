@@ -43,11 +43,13 @@ AreSound n = (port : PortName) (side : PortSide) (entity : Entity) → IsOpen n 
 
 -- a port that is granted a PDU has one answer, and leaves one node, where receivers are sound
 abbrev pub OnePortGrant : Type 0
-OnePortGrant = (old : Node) → AreSound old → (port : PortName) (octets : ℕ) (a b : PortGrant) (m n : Node) → GrantsPort old port octets a m → GrantsPort old port octets b n → (a ≡ b) × (m ≡ n)
+OnePortGrant = (old : Node) → AreSound old → (port : PortName) (octets : ℕ) (a b : PortGrant) (m n : Node) → GrantsPort old port octets a m → GrantsPort old port octets b n
+    → (a ≡ b) × (m ≡ n)
 
 -- a timer of a port that is to run out has one answer, and leaves one node
 abbrev pub OnePortExpiry : Type 0
-OnePortExpiry = (old : Node) (port : PortName) (timer : Timer) (a b : Option Expired) (m n : Node) → ExpiresPort old port timer a m → ExpiresPort old port timer b n → (a ≡ b) × (m ≡ n)
+OnePortExpiry = (old : Node) (port : PortName) (timer : Timer) (a b : Option Expired) (m n : Node) → ExpiresPort old port timer a m → ExpiresPort old port timer b n
+    → (a ≡ b) × (m ≡ n)
 
 -- over map rows in order and attachments that share no identity, an SDU leads to one target
 abbrev pub OneTarget : Type 0
@@ -68,4 +70,5 @@ OneNodeHearing =
 
 -- nodes that nothing tells apart feed alike
 abbrev pub FeedsAlike : Type 0
-FeedsAlike = (t : Contents) (old other : Node) → SameNode old other → (given given' : List Key) (m n : Node) → Feeds t old given m → Feeds t other given' n → (given ≡ given') × SameNode m n
+FeedsAlike = (t : Contents) (old other : Node) → SameNode old other → (given given' : List Key) (m n : Node) → Feeds t old given m → Feeds t other given' n
+    → (given ≡ given') × SameNode m n

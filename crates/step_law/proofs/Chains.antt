@@ -36,7 +36,8 @@ set_alike name m n same (x ∷ xs) = (chosen (is_node name x.name) m n x x same 
 pub node_set : (c : Chain) (m n : Node) → SameNode m n → SameChain (set_node c m) (set_node c n)
 node_set c m n same = record {
   tables = refl;
-  nodes = subst (λ (z : NodeName). SameNodes (replaced (λ (x : Node). is_node m.name x.name) m c.nodes) (replaced (λ (x : Node). is_node z x.name) n c.nodes)) same.name (set_alike m.name m n same c.nodes);
+  nodes = subst (λ (z : NodeName). SameNodes (replaced (λ (x : Node). is_node m.name x.name) m c.nodes) (replaced (λ (x : Node). is_node z x.name) n c.nodes)) same.name
+      (set_alike m.name m n same c.nodes);
   plans = refl;
   air = refl;
   staged = refl;
@@ -59,7 +60,8 @@ found name [] [] e = tt
 found name [] (y ∷ ys) e = absurd e
 found name (x ∷ xs) [] e = absurd e
 found name (x ∷ xs) (y ∷ ys) e = subst
-    (λ (z : Bool). SameFound (if is_node name x.name then Some x else find (λ (n : Node). is_node name n.name) xs) (if z then Some y else find (λ (n : Node). is_node name n.name) ys))
+    (λ (z : Bool). SameFound (if is_node name x.name then Some x else find (λ (n : Node). is_node name n.name) xs)
+    (if z then Some y else find (λ (n : Node). is_node name n.name) ys))
     (ap (is_node name) e.0.name)
     (first_or (is_node name x.name) x y (find (λ (n : Node). is_node name n.name) xs) (find (λ (n : Node). is_node name n.name) ys) e.0 (found name xs ys e.1))
 

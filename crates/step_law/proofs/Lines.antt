@@ -59,7 +59,8 @@ unless (Some refusal) old es fs a b m n done other one p q = equal p.0 q.0 (p.1 
 unless None old es fs a b m n done other one p q = one p q
 
 -- a submission
-submits : (fault : Option SubmitFault) (old : Chain) (key : Key) (sdu : List ℕ) (es fs : List Event) (a b : Reply) (m n : Chain) → Submits fault old key sdu es a m → Submits fault old key sdu fs b n → AreOne es fs a b m n
+submits : (fault : Option SubmitFault) (old : Chain) (key : Key) (sdu : List ℕ) (es fs : List Event) (a b : Reply) (m n : Chain) → Submits fault old key sdu es a m
+    → Submits fault old key sdu fs b n → AreOne es fs a b m n
 submits (Some fault) old key sdu es fs a b m n p q = equal p.0 q.0 (one_submit fault a b p.1 q.1) (p.2 ∙ sym q.2)
 submits None old key sdu es fs a b m n p q = equal p.0 q.0 (p.1 ∙ sym q.1) (p.2 ∙ sym q.2)
 
@@ -81,7 +82,8 @@ sends old node port way epoch (grant.Small need) a b m n p q = (p.0 ∙ sym q.0,
 
 module _ (old : Chain) (fine : IsOrderly old) where
   -- a grant
-  grants : (port : PortName) (way : Way) (octets : ℕ) (es fs : List Event) (a b : Reply) (m n : Chain) → Granted old port way octets es a m → Granted old port way octets fs b n → AreOne es fs a b m n
+  grants : (port : PortName) (way : Way) (octets : ℕ) (es fs : List Event) (a b : Reply) (m n : Chain) → Granted old port way octets es a m
+      → Granted old port way octets fs b n → AreOne es fs a b m n
   grants port way octets es fs a b m n p q =
       let at = owner (sender_of way) port in
       let one = one_port_grant (node_at old at) (fine.sound at) port octets (Hop p.epoch p.answer) (Hop q.epoch q.answer) p.node q.node p.grants q.grants in
@@ -91,7 +93,8 @@ module _ (old : Chain) (fine : IsOrderly old) where
       equal p.shows q.shows same.0 same.1
 
   -- a PDU comes to its node; behind keeps chains alike
-  comes : OneNodeHearing → (pdu : Pdu) (behind : Chain → Chain) → ((x y : Chain) → SameChain x y → SameChain (behind x) (behind y)) → (es fs : List Event) (a b : Reply) (m n : Chain)
+  comes : OneNodeHearing → (pdu : Pdu) (behind : Chain → Chain) → ((x y : Chain) → SameChain x y → SameChain (behind x) (behind y))
+      → (es fs : List Event) (a b : Reply) (m n : Chain)
       → Comes old pdu es a m behind → Comes old pdu fs b n behind → AreOne es fs a b m n
   comes hearing pdu behind keeps es fs a b m n p q =
       let at = owner (hearer_of pdu.way) pdu.port in
@@ -100,7 +103,8 @@ module _ (old : Chain) (fine : IsOrderly old) where
       let told = one_heard pdu.port way q.answer es fs a b (subst (λ (x : NodeHeard). TellsHeard pdu.port way x es a) one.0 p.tells) q.tells in
       (told.0, told.1, left p.node q.node one.1 (is_handed_over p.answer) (is_handed_over q.answer) (ap is_handed_over one.0) m n p.is q.is)
     where
-      left : (x y : Node) → SameNode x y → (c d : Bool) → c ≡ d → (m n : Chain) → m ≡ (if c then behind (set_node old x) else old) → n ≡ (if d then behind (set_node old y) else old) → SameChain m n
+      left : (x y : Node) → SameNode x y → (c d : Bool) → c ≡ d → (m n : Chain) → m ≡ (if c then behind (set_node old x) else old)
+          → n ≡ (if d then behind (set_node old y) else old) → SameChain m n
       left x y same c d e m n p q = subst (λ (z : Chain). SameChain z n) (sym p) (subst (SameChain (if c then behind (set_node old x) else old)) (sym q)
           (subst (λ (z : Bool). SameChain (if c then behind (set_node old x) else old) (if z then behind (set_node old y) else old)) e (go c)))
         where
@@ -108,7 +112,8 @@ module _ (old : Chain) (fine : IsOrderly old) where
           go true = keeps (set_node old x) (set_node old y) (node_set old x y same)
           go false = same_chain old old refl
 
-  delivers : OneNodeHearing → (o : Option Pdu) (behind : Chain → Chain) → ((x y : Chain) → SameChain x y → SameChain (behind x) (behind y)) → (es fs : List Event) (a b : Reply) (m n : Chain)
+  delivers : OneNodeHearing → (o : Option Pdu) (behind : Chain → Chain) → ((x y : Chain) → SameChain x y → SameChain (behind x) (behind y))
+      → (es fs : List Event) (a b : Reply) (m n : Chain)
       → Delivers old o es a m behind → Delivers old o fs b n behind → AreOne es fs a b m n
   delivers hearing None behind keeps es fs a b m n p q = equal p.0 q.0 (p.1 ∙ sym q.1) (p.2 ∙ sym q.2)
   delivers hearing (Some pdu) behind keeps es fs a b m n p q = comes hearing pdu behind keeps es fs a b m n p q
@@ -119,10 +124,12 @@ module _ (old : Chain) (fine : IsOrderly old) where
   loses (Some pdu) ticket es fs a b m n p q = equal p.0 q.0 (p.1 ∙ sym q.1) (p.2 ∙ sym q.2)
 
   -- a timer
-  expires : (port : PortName) (at : Side) (timer : Timer) (es fs : List Event) (a b : Reply) (m n : Chain) → Expires old port at timer es a m → Expires old port at timer fs b n → AreOne es fs a b m n
+  expires : (port : PortName) (at : Side) (timer : Timer) (es fs : List Event) (a b : Reply) (m n : Chain) → Expires old port at timer es a m
+      → Expires old port at timer fs b n → AreOne es fs a b m n
   expires port at timer es fs a b m n p q =
       let one = one_port_expiry (node_at old (owner at port)) port timer (Some p.expired) (Some q.expired) p.node q.node p.expires q.expires in
-      let told = one_expired port (way_from at) q.expired es fs a b (subst (λ (x : Expired). TellsExpired port (way_from at) x es a) (same_Some p.expired q.expired one.0) p.tells) q.tells in
+      let told = one_expired port (way_from at) q.expired es fs a b
+      (subst (λ (x : Expired). TellsExpired port (way_from at) x es a) (same_Some p.expired q.expired one.0) p.tells) q.tells in
       (told.0, told.1, same_chain m n (p.is ∙ ap (set_node old) one.1 ∙ sym q.is))
 
   -- a push and a pull
@@ -140,13 +147,16 @@ module _ (old : Chain) (fine : IsOrderly old) where
   plans : (remote : Remote) (goal : Goal) (es fs : List Event) (a b : Reply) (m n : Chain) → Plans old remote goal es a m → Plans old remote goal fs b n → AreOne es fs a b m n
   plans remote goal es fs a b m n p q =
       let last : p.last ≡ q.last = same_Some p.last q.last (sym p.its ∙ q.its) in
-      equal p.shows q.shows (p.says ∙ ap (λ (x : Plan). OkNumber (next_plan x goal).epoch) last ∙ sym q.says) (p.is ∙ ap (λ (x : Plan). set_plan old (next_plan x goal)) last ∙ sym q.is)
+      equal p.shows q.shows (p.says ∙ ap (λ (x : Plan). OkNumber (next_plan x goal).epoch) last ∙ sym q.says)
+      (p.is ∙ ap (λ (x : Plan). set_plan old (next_plan x goal)) last ∙ sym q.is)
 
   -- the chain once a node has applied this plan
   abbrev applied : Remote → NodeKind → Plan → Chain
-  applied remote kind x = closed remote (is_open (marks x kind)) (set_plan (set_node old (node_after (settings old.tables) remote x.goal x.epoch (node_at old (node_of kind remote)))) (marks x kind))
+  applied remote kind x = closed remote (is_open (marks x kind))
+      (set_plan (set_node old (node_after (settings old.tables) remote x.goal x.epoch (node_at old (node_of kind remote)))) (marks x kind))
 
-  applies : (remote : Remote) (kind : NodeKind) (es fs : List Event) (a b : Reply) (m n : Chain) → Applies old remote kind es a m → Applies old remote kind fs b n → AreOne es fs a b m n
+  applies : (remote : Remote) (kind : NodeKind) (es fs : List Event) (a b : Reply) (m n : Chain) → Applies old remote kind es a m → Applies old remote kind fs b n
+      → AreOne es fs a b m n
   applies remote kind es fs a b m n p q =
       equal p.shows q.shows (p.says ∙ sym q.says) (p.is ∙ ap (applied remote kind) (same_Some p.plan q.plan (sym p.its ∙ q.its)) ∙ sym q.is)
 
@@ -155,19 +165,27 @@ module _ (old : Chain) (fine : IsOrderly old) where
   off_alike ticket x y e = record { tables = e.tables; nodes = e.nodes; plans = e.plans; air = ap (λ (air : List (Option Pdu)). off_air air ticket) e.air; staged = e.staged }
 
   -- each line
-  pub one_does : OneNodeHearing → (line : Line) → is_burst line ≡ false → (es fs : List Event) (a b : Reply) (m n : Chain) → Does old line es a m → Does old line fs b n → AreOne es fs a b m n
-  one_does hearing (Submit key sdu) e es fs a b m n p q = unless (submit_refusal old key) old es fs a b m n (Submits (submit_fault (sender_at old key) sdu) old key sdu es a m) (Submits (submit_fault (sender_at old key) sdu) old key sdu fs b n)
+  pub one_does : OneNodeHearing → (line : Line) → is_burst line ≡ false → (es fs : List Event) (a b : Reply) (m n : Chain) → Does old line es a m → Does old line fs b n
+      → AreOne es fs a b m n
+  one_does hearing (Submit key sdu) e es fs a b m n p q = unless (submit_refusal old key) old es fs a b m n
+      (Submits (submit_fault (sender_at old key) sdu) old key sdu es a m) (Submits (submit_fault (sender_at old key) sdu) old key sdu fs b n)
       (submits (submit_fault (sender_at old key) sdu) old key sdu es fs a b m n) p q
-  one_does hearing (Grant port way octets) e es fs a b m n p q = unless (grant_refusal old port way) old es fs a b m n (Granted old port way octets es a m) (Granted old port way octets fs b n) (grants port way octets es fs a b m n) p q
+  one_does hearing (Grant port way octets) e es fs a b m n p q = unless (grant_refusal old port way) old es fs a b m n (Granted old port way octets es a m)
+      (Granted old port way octets fs b n) (grants port way octets es fs a b m n) p q
   one_does hearing (Deliver ticket) e es fs a b m n p q = delivers hearing (on_air old.air ticket) (without ticket) (off_alike ticket) es fs a b m n p q
   one_does hearing (Repeat ticket) e es fs a b m n p q = delivers hearing (on_air old.air ticket) (λ c. c) (λ x y same. same) es fs a b m n p q
   one_does hearing (Lose ticket) e es fs a b m n p q = loses (on_air old.air ticket) ticket es fs a b m n p q
-  one_does hearing (Stage ticket) e es fs a b m n p q = unless (stage_refusal (on_air old.air ticket)) old es fs a b m n (Stages old ticket es a m) (Stages old ticket fs b n) (λ x y. equal x.0 y.0 (x.1 ∙ sym y.1) (x.2 ∙ sym y.2)) p q
-  one_does hearing (Expire port at timer) e es fs a b m n p q = unless (expire_refusal old port at) old es fs a b m n (Expires old port at timer es a m) (Expires old port at timer fs b n) (expires port at timer es fs a b m n) p q
+  one_does hearing (Stage ticket) e es fs a b m n p q = unless (stage_refusal (on_air old.air ticket)) old es fs a b m n (Stages old ticket es a m)
+      (Stages old ticket fs b n) (λ x y. equal x.0 y.0 (x.1 ∙ sym y.1) (x.2 ∙ sym y.2)) p q
+  one_does hearing (Expire port at timer) e es fs a b m n p q = unless (expire_refusal old port at) old es fs a b m n (Expires old port at timer es a m)
+      (Expires old port at timer fs b n) (expires port at timer es fs a b m n) p q
   one_does hearing (Push port) e es fs a b m n p q = pushes port es fs a b m n p q
   one_does hearing (Pull port) e es fs a b m n p q = pulls port es fs a b m n p q
   one_does hearing Burst e es fs a b m n p q = absurd (false≢true (sym e))
-  one_does hearing (Report key) e es fs a b m n p q = unless (report_refusal old key) old es fs a b m n (Wants old key es a m) (Wants old key fs b n) (λ x y. equal x.0 y.0 (x.1 ∙ sym y.1) (x.2 ∙ sym y.2)) p q
-  one_does hearing (PlanLine remote goal) e es fs a b m n p q = unless (plan_refusal old remote goal) old es fs a b m n (Plans old remote goal es a m) (Plans old remote goal fs b n) (plans remote goal es fs a b m n) p q
-  one_does hearing (Apply remote kind) e es fs a b m n p q = unless (apply_refusal old remote kind) old es fs a b m n (Applies old remote kind es a m) (Applies old remote kind fs b n) (applies remote kind es fs a b m n) p q
+  one_does hearing (Report key) e es fs a b m n p q = unless (report_refusal old key) old es fs a b m n (Wants old key es a m) (Wants old key fs b n)
+      (λ x y. equal x.0 y.0 (x.1 ∙ sym y.1) (x.2 ∙ sym y.2)) p q
+  one_does hearing (PlanLine remote goal) e es fs a b m n p q = unless (plan_refusal old remote goal) old es fs a b m n (Plans old remote goal es a m)
+      (Plans old remote goal fs b n) (plans remote goal es fs a b m n) p q
+  one_does hearing (Apply remote kind) e es fs a b m n p q = unless (apply_refusal old remote kind) old es fs a b m n (Applies old remote kind es a m)
+      (Applies old remote kind fs b n) (applies remote kind es fs a b m n) p q
   one_does hearing line e es fs a b m n p q = absurd p

@@ -70,8 +70,10 @@ only a x c = go c.0 c.1 c.2
 
 one_is : (a : Attachment) → AreIds (a ∷ [])
 one_is a = record {
-  one_id = λ r id other p q. ap (λ (x : Attachment). x.id.0) (sym (only a (record { remote = r; id = record { 0 = id } }) p) ∙ only a (record { remote = r; id = record { 0 = other } }) q);
-  one_remote = λ r other id p q. ap (λ (x : Attachment). x.remote) (sym (only a (record { remote = r; id = record { 0 = id } }) p) ∙ only a (record { remote = other; id = record { 0 = id } }) q);
+  one_id = λ r id other p q. ap (λ (x : Attachment). x.id.0)
+      (sym (only a (record { remote = r; id = record { 0 = id } }) p) ∙ only a (record { remote = r; id = record { 0 = other } }) q);
+  one_remote = λ r other id p q. ap (λ (x : Attachment). x.remote)
+      (sym (only a (record { remote = r; id = record { 0 = id } }) p) ∙ only a (record { remote = other; id = record { 0 = id } }) q);
 }
 
 -- a node that isn't there is orderly

@@ -29,7 +29,8 @@ one_feeding t (x ∷ xs) (y ∷ ys) e g h ms ns p q =
 pub one_step : OneNodeHearing → OneStep
 one_step hearing old fine line e es fs a b m n p q =
     let does = one_does old fine hearing line e p.own q.own a b p.mid q.mid p.does q.does in
-    let fed = one_feeding q.mid.tables p.mid.nodes q.mid.nodes does.2.nodes p.given q.given p.nodes q.nodes (subst (λ (t : Contents). FeedsAll t p.mid.nodes p.given p.nodes) does.2.tables p.feeds) q.feeds in
+    let fed = one_feeding q.mid.tables p.mid.nodes q.mid.nodes does.2.nodes p.given q.given p.nodes q.nodes
+    (subst (λ (t : Contents). FeedsAll t p.mid.nodes p.given p.nodes) does.2.tables p.feeds) q.feeds in
     let same : SameChain (record p.mid { nodes = p.nodes }) (record q.mid { nodes = q.nodes }) =
     record { tables = does.2.tables; nodes = fed.1; plans = does.2.plans; air = does.2.air; staged = does.2.staged } in (
       p.shows ∙ ap (λ (xs : List Event). xs ++ filter_map (confirming old p.mid) (keys old.tables) ++ filter_map (reporting p.given) (keys old.tables)) does.0

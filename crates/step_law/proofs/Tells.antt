@@ -53,7 +53,8 @@ one_heard port way answers.Report es fs a b p q = both p q
 one_heard port way (answers.Discard name) es fs a b p q = both p q
 one_heard port way (answers.Hop x) es fs a b p q = one_hop port way x es fs a b p q
 
-pub one_expired : (port : PortName) (way : Way) (x : Expired) (es fs : List Event) (a b : Reply) → TellsExpired port way x es a → TellsExpired port way x fs b → (es ≡ fs) × (a ≡ b)
+pub one_expired : (port : PortName) (way : Way) (x : Expired) (es fs : List Event) (a b : Reply) → TellsExpired port way x es a → TellsExpired port way x fs b
+    → (es ≡ fs) × (a ≡ b)
 one_expired port way expiry.Done es fs a b p q = both p q
 one_expired port way (expiry.Marked n) es fs a b p q = both p q
 one_expired port way expiry.Stopped es fs a b p q = both p q
