@@ -7,3 +7,4 @@ pub mod OverRelay
 pub mod Switched
 pub mod Lost
 pub mod OverDirect
+pub mod Lookups

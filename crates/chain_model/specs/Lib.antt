@@ -13,3 +13,4 @@ pub mod Heard
 pub mod Carried
 pub mod OneCopy
 pub mod Worked
+pub mod Places

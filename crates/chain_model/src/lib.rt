@@ -6,7 +6,9 @@
 #![tactic(auto)]
 
 mod laws;
+mod places;
 mod plan;
 
 pub use laws::{a_path_is_switched, an_sdu_goes_direct, an_sdu_goes_over_the_relay};
+pub use places::{ends_are_set_by_key, nodes_are_set_by_name};
 pub use plan::Plan;

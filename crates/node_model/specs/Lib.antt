@@ -11,3 +11,4 @@ pub mod Relaying
 pub mod Switching
 pub mod Rows
 pub mod Laws
+pub mod Places

@@ -10,7 +10,9 @@
 mod answers;
 mod laws;
 mod parcel;
+mod places;
 
 pub use answers::{NodeHeard, PortGrant, PullReply, PushReply};
 pub use laws::one_row_has_a_name;
 pub use parcel::Parcel;
+pub use places::{names_are_told_apart, rows_are_set_by_name};
