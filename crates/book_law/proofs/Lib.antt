@@ -1,0 +1,16 @@
+pub mod Senders
+pub mod Ends
+pub mod Fed
+pub mod Moves
+pub mod Events
+pub mod Leading
+pub mod Heard
+pub mod Lines
+pub mod Declared
+pub mod Opened
+pub mod Books
+pub mod Having
+pub mod Along
+pub mod Led
+pub mod Tables
+pub mod TheLaws
