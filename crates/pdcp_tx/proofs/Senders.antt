@@ -7,9 +7,11 @@ use Rattle.std.proofs.lemmas.List.Sums.{prefix_len-le-length}
 use Rattle.std.proofs.lemmas.Bool.{cases_lt}
 use Rattle.std.proofs.lemmas.Bool.Decides.{nat_tests}
 use Rattle.std.proofs.lemmas.Option.{none-some}
-use Rattle.link_base.specs.declared.limits.TheConstants.{COUNT_END}
+use Rattle.link_base.specs.declared.names.SnSize.{SnSize}
+use Rattle.link_base.specs.declared.names.SnSize.TheVariants.{S12, S18}
+use Rattle.link_base.specs.declared.limits.TheConstants.{LONGEST_PDCP_SDU, COUNT_END}
 use Rattle.link_base.specs.SequenceNumbers.{most_unconfirmed}
-use Rattle.pdcp_pdu.specs.Pdcp.{IsBody, pdcp_bytes}
+use Rattle.pdcp_pdu.specs.Pdcp.{Sdu, IsBody, pdcp_bytes}
 use Rattle.pdcp_model.specs.Sender.{Sender, kept_at, submitted, confirmed, tx_next, accepts, next, has_next, data_pdu, gave_next, still_kept, confirms}
 use Rattle.pdcp_tx.specs.Sound.{IsSender}
 use Rattle.pdcp_tx.specs.Inside.{Knows}
@@ -98,3 +100,8 @@ back_sound s waits i = record { first = i.first; end = i.end; limit = i.limit; t
 
 pub back_next : (s : Sender) → confirmed s ≡ confirmed s + prefix_len is_none (drop (confirmed s) s.kept)
 back_next s = omega (arith, front_stops s.kept)
+
+-- a data PDU has its header and its SDU
+pub data_pdu_long : (size : SnSize) (sn : ℕ) (sdu : List ℕ) → IsBody sdu → (0 < length (pdcp_bytes size (Sdu sn sdu))) × (length (pdcp_bytes size (Sdu sn sdu)) ≤ 3 + LONGEST_PDCP_SDU)
+data_pdu_long S12 sn sdu body = (omega arith, omega (arith, body.1))
+data_pdu_long S18 sn sdu body = (omega arith, omega (arith, body.1))

@@ -1,5 +1,6 @@
 -- What the calls of a transmitting side answer.
-use Rattle.std.specs.Prelude.{◌≡◌, ℕ, ◌+◌, true, false, List, Option, Some, None}
+use Rattle.std.specs.Prelude.{◌≡◌, ℕ, ◌+◌, ◌<◌, ◌≤◌, true, false, List, length, Option, Some, None}
+use Rattle.link_base.specs.declared.limits.TheConstants.{LONGEST_PDCP_SDU}
 use Rattle.pdcp_pdu.specs.Pdcp.{pdcp_bytes}
 use Rattle.pdcp_model.specs.declared.answers.ReportBeyond.{ReportBeyond}
 use Rattle.pdcp_model.specs.declared.answers.SubmitFault.{SubmitFault}
@@ -22,6 +23,11 @@ GivesNext old (Some given) new =
     (has_next old ≡ true) × (given.0 ≡ old.first + next old)
     × (sdu : List ℕ) × (kept_at old (next old) ≡ Some sdu) × (given.1 ≡ pdcp_bytes old.size (data_pdu old (next old) sdu))
     × (new ≡ gave_next old)
+
+-- what is given has an octet, and no more than the longest SDU behind a header of three octets (6.2.2)
+abbrev pub IsDataPdu : Option (ℕ × List ℕ) → Type 0
+IsDataPdu None = Unit {0}
+IsDataPdu (Some given) = (0 < length given.1) × (length given.1 ≤ 3 + LONGEST_PDCP_SDU)
 
 -- a status report speaks of a COUNT that wasn't submitted, and its FMC and TX_NEXT are told
 abbrev pub TellsBeyond : Sender → ℕ → List ℕ → ReportBeyond → Type 0

@@ -3,7 +3,7 @@ ghost use Rattle.std.specs.Prelude.{◌≡◌, ◌==◌, ◌+◌, ◌<◌, ◌�
 ghost use Rattle.link_base.specs.declared.limits.TheConstants.{COUNT_END};
 ghost use Rattle.pdcp_model.specs.Sender.{new_sender, submitted, confirmed, tx_next, has_next, confirms, IsBeyond, goes_on, hears_report, begins_wait};
 ghost use Rattle.pdcp_tx.specs.Sound.{IsSender};
-ghost use Rattle.pdcp_tx.specs.Calls.{Accepts, Refuses, GivesNext, TellsBeyond};
+ghost use Rattle.pdcp_tx.specs.Calls.{Accepts, Refuses, GivesNext, IsDataPdu, TellsBeyond};
 
 use crate::kept_sdus::KeptSdus;
 use crate::report::speaks_from;
@@ -145,11 +145,12 @@ impl PdcpTx {
     }
 
     /// The COUNT and the PDCP data PDU of the SDU that is next to be given to RLC, which has had its turn then (TS 38.323
-    /// clause 5.2.1). None comes exactly where `has_next` is false.
+    /// clause 5.2.1), of at most 9,003 octets. None comes exactly where `has_next` is false.
     ///
     /// An `Err` is want of memory, and comes only where there is a PDU to give. The transmitting side is then as it was.
     pub fn next_pdu(&mut self) -> Result<Option<(u32, Bytes)>, Memory>
         ensures ok { IfOk result (λ given. GivesNext self.old given self.new) }
+        ensures octets { IfOk result IsDataPdu }
         ensures err { OnErr result (self.new ≡ self.old) }
         ensures memory { OnErr result (has_next self.old ≡ true) }
     {

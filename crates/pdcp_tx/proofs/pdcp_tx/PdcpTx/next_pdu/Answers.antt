@@ -4,7 +4,7 @@ use Rattle.pdcp_pdu.specs.Pdcp.{Sdu, pdcp_bytes}
 use Rattle.pdcp_model.specs.Sender.{Sender, has_next}
 use Rattle.pdcp_tx.specs.Inside.{sender_of}
 use Rattle.pdcp_tx.specs.Calls.{GivesNext}
-use Rattle.pdcp_tx.proofs.Senders.{none_next, gives_next}
+use Rattle.pdcp_tx.proofs.Senders.{none_next, gives_next, data_pdu_long}
 use Rattle.pdcp_tx.proofs.pdcp_tx.PdcpTx.next_pdu.Goals as goal
 
 pub returns-in_default-clause-ok : goal.returns-in_default-clause-ok
@@ -22,3 +22,8 @@ returns-clause-ok c =
     in
     subst (λ (t : Sender). GivesNext t (Some (count, c.in_ok-bytes.bytes)) (record s { place = a.next + 1 })) c.self.view_is
     (gives_next s a.next c.in-Some.sdu.now count c.in_ok-bytes.bytes c.self.invariant c.if-self.false c.in-Some.ensures.some refl bytes)
+
+pub returns-clause-octets : goal.returns-clause-octets
+returns-clause-octets c =
+    let body = c.self.invariant.sound.sdus c.self.inside.next c.in-Some.sdu.now c.in-Some.ensures.some in
+    rw (c.in_ok-bytes.ensures.bytes, c.as_slice.ensures) (data_pdu_long c.self.inside.size _ c.in-Some.sdu.now body)
