@@ -1,0 +1,6 @@
+pub mod Confirming
+pub mod Found
+pub mod Heard
+pub mod Opening
+pub mod Searches
+pub mod Table

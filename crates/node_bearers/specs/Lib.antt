@@ -1,0 +1,5 @@
+pub mod Bearer
+pub mod Hearing
+pub mod Order
+pub mod Table
+pub mod Calls
