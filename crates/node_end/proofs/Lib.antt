@@ -1,0 +1,5 @@
+pub mod Feeds
+pub mod Heard
+pub mod Names
+pub mod Opening
+pub mod Rooms

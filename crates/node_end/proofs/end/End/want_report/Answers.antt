@@ -1,0 +1,11 @@
+use Rattle.std.proofs.Common.{map, refl, ◌∙◌, ap}
+use Rattle.node_model.specs.State.{Node}
+use Rattle.node_model.specs.Feeding.{in_key}
+use Rattle.node_end.specs.Node.{node_of, with_ends}
+use Rattle.node_end.proofs.Names.{in_keys_kept, still_direct}
+use Rattle.node_end.proofs.end.End.want_report.Goals as goal
+
+pub invariant_of-self : goal.invariant_of-self
+invariant_of-self c =
+    let n = node_of c.self.inside in
+    still_direct n (with_ends n c.want_report.new.self) refl (ap (λ (b : Node). map in_key b.incoming) c.want_report.ensures ∙ in_keys_kept c.self.inside.bearers _) refl c.self.invariant

@@ -1,0 +1,4 @@
+pub mod Direct
+pub mod Node
+pub mod Hearing
+pub mod Feeding

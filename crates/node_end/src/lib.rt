@@ -1,0 +1,10 @@
+//! The end of bearers at a node, a remote or the gNB: its sides of ports, and the PDCP entities over them (TS 38.300 clause
+//! 16.12.2.1). All paths are direct ones.
+#![tactic(auto)]
+
+mod end;
+mod feeding;
+mod hearing;
+
+pub use end::{End, KeyList};
+pub use node_model::{NodeHeard, PortGrant};
