@@ -1,5 +1,5 @@
 -- A node applies a plan: the sides of the remote's ports that it has are closed, or opened in an epoch to which they had not come.
-use Rattle.std.proofs.Common.{◌≡◌, inl, inr, ℕ, ◌+◌, ◌≤◌, Bool, true, false, cond, ◌&&◌, ◌||◌, List, [], ◌∷◌, length, map, find, Option, Some, None, option_map, option_and_then, refl, sym, ◌∙◌, ap, subst, arith}
+use Rattle.std.proofs.Common.{◌≡◌, inl, inr, ℕ, ◌+◌, ◌≤◌, Bool, true, false, cond, ◌&&◌, ◌||◌, List, [], ◌∷◌, length, map, find, Option, Some, None, option_map, refl, sym, ◌∙◌, ap, subst, arith}
 use Rattle.std.specs.List.{AllByRecursion, list_any}
 use Rattle.std.specs.Option.{unwrap_or}
 use Rattle.std.proofs.lemmas.Bool.{cases_Bool, cases_eq, cond-true, cond-false, false≢true, and_parts, and_from}
@@ -24,7 +24,7 @@ use Rattle.pdcp_model.specs.Sender.{begins_wait}
 use Rattle.script_text.specs.declared.event.Event.{Event}
 use Rattle.script_text.specs.declared.reply.Reply.{Reply}
 use Rattle.node_model.specs.Names.{NodeName, AtRemote, is_node, is_port, is_remote, is_of, owner, node_of}
-use Rattle.node_model.specs.State.{PortSide, Outgoing, Node, side_at, entity_of, no_node}
+use Rattle.node_model.specs.State.{PortSide, Outgoing, Node, side_at, no_node}
 use Rattle.node_model.specs.Tables.{settings, is_open_on}
 use Rattle.node_model.specs.Opening.{new_entity}
 use Rattle.node_model.specs.Switching.{is_purged, side_after, outgoing_after, node_after, node_closed}
@@ -34,10 +34,10 @@ use Rattle.chain_model.specs.Plans.{has_applied, marks, is_open}
 use Rattle.chain_model.specs.Told.{kind_of}
 use Rattle.chain_model.specs.Lines.{apply_refusal, node_refusal, Applies, closed}
 use Rattle.chain_law.specs.Entities.{port_size, port_settings, next_epoch}
-use Rattle.chain_law.proofs.Names.{remote_is, node_is, node_refl, port_refl, cases_node, cases_port, cases_owner, owner_side}
-use Rattle.chain_law.proofs.Finding.{find_map, find_none, each_map, each_replaced}
+use Rattle.node_model.proofs.Names.{remote_is, node_is, node_refl, port_refl, cases_node, cases_port, cases_owner, owner_side}
+use Rattle.node_model.proofs.Finding.{find_map, find_none, each_map, each_replaced}
 use Rattle.chain_law.specs.Foundations.{RlcLaws}
-use Rattle.chain_law.proofs.Stands.{View, Limits, Stands, sides_of, shown, put, put_here, put_other, put_alike, stands_same}
+use Rattle.chain_law.proofs.Stands.{entity_changes, sizes_stay, View, Limits, Stands, sides_of, shown, put, put_here, put_other, put_alike, stands_same}
 use Rattle.chain_law.proofs.Pairs.{Pairwise}
 use Rattle.chain_law.proofs.Nodes.{NodeFits, SideFits, ParcelFits, OutgoingFits, port_of, Differ, side_name}
 use Rattle.chain_law.proofs.Mixing.{stands_higher, mixed, mixed_before, mixed_other, mixed_this, all_mixed}
@@ -50,24 +50,11 @@ start_is t name Low epoch = refl
 start_is t name High epoch = refl
 
 -- a side of a port opens in an epoch to which it had not come, or closes
-module _ (l : RlcLaws) {t : Contents} {limit : Limits} {air : List (Option Pdu)} {view : View} (s : Stands t view limit air) (side : Side) (name : PortName) (was now : PortSide) (there : view (owner side name) name ≡ Some was) (same_size : now.size ≡ was.size)
+module _ (l : RlcLaws) {t : Contents} {limit : Limits} {air : List (Option Pdu)} {view : View} (s : Stands t view limit air) (side : Side) (name : PortName) (was now : PortSide)
+    (there : view (owner side name) name ≡ Some was) (same_size : now.size ≡ was.size)
     (new : View) (change : Changes view (owner side name) name (Some now) new) (higher : Limits) (le : (at : Side) (q : PortName) → limit at q ≤ higher at q) where
   side_changes : Changes (sides_of view) side name now.entity (sides_of new)
-  side_changes = record {
-    here = ap (option_and_then entity_of) change.here;
-    others = λ at q ne. ap (option_and_then entity_of) (change.others (owner at q) q (λ same. ne (owner_side at side q (same.0 ∙ sym (ap (owner side) same.1)), same.1)));
-  }
-
-  sizes_still : (at : Side) (q : PortName) (x : PortSide) → new (owner at q) q ≡ Some x → x.size ≡ port_size t q
-  sizes_still at q x is = elim (cases_port q name) [
-    | inr ne ↦ s.sizes at q x (sym (change.others (owner at q) q (λ same. ne same.1)) ∙ is)
-    | inl same ↦ elim (cases_node (owner at q) (owner side name)) [
-      | inr ne ↦ s.sizes at q x (sym (change.others (owner at q) q (λ same. ne same.0)) ∙ is)
-      | inl one ↦
-          let now_is : now ≡ x = same_Some now x (sym change.here ∙ ap (λ (y : NodeName). new y name) (sym one) ∙ ap (new (owner at q)) (sym same) ∙ is) in
-          ap (λ (x : PortSide). x.size) (sym now_is) ∙ same_size ∙ s.sizes side name was there ∙ ap (port_size t) (sym same)
-    ]
-  ]
+  side_changes = entity_changes s side name was now there same_size new change
 
   closes_stands : now.entity ≡ None → Stands t new higher air
   closes_stands none = record {
@@ -75,16 +62,18 @@ module _ (l : RlcLaws) {t : Contents} {limit : Limits} {air : List (Option Pdu)}
     epochs = s.epochs;
     fits = s.fits;
     opened = s.opened;
-    sides = l.sides_keep (port_settings t) s.ports s.ports s.epochs s.epochs (sides_of view) (sides_of new) s.sides (closes side name (subst (λ (e : Option Entity). Changes (sides_of view) side name e (sides_of new)) none side_changes));
+    sides = l.sides_keep (port_settings t) s.ports s.ports s.epochs s.epochs (sides_of view) (sides_of new) s.sides
+        (closes side name (subst (λ (e : Option Entity). Changes (sides_of view) side name e (sides_of new)) none side_changes));
     few = s.few;
     within = λ at q. omega (arith, s.within at q, le at q);
-    sizes = sizes_still;
+    sizes = sizes_stay s side name was now there same_size new change;
   }
 
   module _ (epoch : ℕ) (its : now.entity ≡ Some (new_entity (settings t) was.size epoch)) (past : limit side name ≤ epoch) (up : epoch + 1 ≤ higher side name) where
     opening : Changes (sides_of view) side name (Some (start_entity (port_settings t name) side epoch)) (sides_of new)
     opening = subst (λ (e : Option Entity). Changes (sides_of view) side name e (sides_of new))
-        (its ∙ ap (λ (size : SnSize). Some (new_entity (settings t) size epoch)) (s.sizes side name was there) ∙ ap (λ (e : Entity). Some e) (start_is t name side epoch)) side_changes
+        (its ∙ ap (λ (size : SnSize). Some (new_entity (settings t) size epoch)) (s.sizes side name was there)
+        ∙ ap (λ (e : Entity). Some e) (start_is t name side epoch)) side_changes
 
     epochs : (new_epochs : Epochs) × Changes s.epochs side name (epoch + 1) new_epochs
     epochs = l.one_changes.2 s.epochs side name (epoch + 1)
@@ -114,7 +103,7 @@ module _ (l : RlcLaws) {t : Contents} {limit : Limits} {air : List (Option Pdu)}
       sides = l.sides_keep (port_settings t) s.ports s.ports s.epochs epochs.0 (sides_of view) (sides_of new) s.sides (follows side name epoch port not_come is epochs.1 opening);
       few = s.few;
       within = still_within;
-      sizes = sizes_still;
+      sizes = sizes_stay s side name was now there same_size new change;
     }
     opens_stands None is = record {
       ports = ports.0;
@@ -124,14 +113,15 @@ module _ (l : RlcLaws) {t : Contents} {limit : Limits} {air : List (Option Pdu)}
       sides = l.sides_keep (port_settings t) s.ports ports.0 s.epochs epochs.0 (sides_of view) (sides_of new) s.sides (begins side name epoch not_come is ports.1 epochs.1 opening);
       few = few;
       within = still_within;
-      sizes = sizes_still;
+      sizes = sizes_stay s side name was now there same_size new change;
     }
       where
         ports : (new_ports : Ports) × Changes s.ports name epoch (Some (start_port (port_settings t name))) new_ports
         ports = l.one_changes.0 s.ports name epoch (Some (start_port (port_settings t name)))
 
         none_there : (ticket : ℕ) (pdu : Pdu) → Rattle.rlc_model.specs.Hop.on_air air ticket ≡ Some pdu → (pdu.port ≡ name) × (pdu.epoch ≡ epoch) → ⊥
-        none_there ticket pdu on same = let found = s.opened ticket pdu on in none-some found.0 (sym is ∙ ap (s.ports name) (sym same.1) ∙ ap (λ (q : PortName). s.ports q pdu.epoch) (sym same.0) ∙ found.1)
+        none_there ticket pdu on same = let found = s.opened ticket pdu on in none-some found.0
+            (sym is ∙ ap (s.ports name) (sym same.1) ∙ ap (λ (q : PortName). s.ports q pdu.epoch) (sym same.0) ∙ found.1)
 
         start_few : (way : Way) → length (hop_of (start_port (port_settings t name)) way).pdus ≤ length air
         start_few Ul = omega arith
@@ -142,7 +132,8 @@ module _ (l : RlcLaws) {t : Contents} {limit : Limits} {air : List (Option Pdu)}
           | inr ne ↦ s.few q e p way (sym (ports.1.others q e (λ same. ne same.0)) ∙ at)
           | inl same ↦ elim (cases_eq e epoch) [
             | inr ne ↦ s.few q e p way (sym (ports.1.others q e (λ same. ne same.1)) ∙ at)
-            | inl one ↦ subst (λ (p : Port). length (hop_of p way).pdus ≤ length air) (same_Some _ p (sym ports.1.here ∙ ap (ports.0 name) (sym one) ∙ ap (λ (q : PortName). ports.0 q e) (sym same) ∙ at)) (start_few way)
+            | inl one ↦ subst (λ (p : Port). length (hop_of p way).pdus ≤ length air)
+                (same_Some _ p (sym ports.1.here ∙ ap (ports.0 name) (sym one) ∙ ap (λ (q : PortName). ports.0 q e) (sym same) ∙ at)) (start_few way)
           ]
         ]
 
@@ -190,13 +181,15 @@ module _ (l : RlcLaws) (t : Contents) (air : List (Option Pdu)) (limit : Limits)
 
   module _ (p : PortName) (names : List PortName) (new_name : list_any (is_port p) names ≡ false) (s : Stands t (put v x (mixed n applied names)) (limit_by names) air) where
     -- where the same is said of the port's side, or no side of it is the node's
-    same_said : (((side : Side) × (owner side p ≡ x)) → option_map shown (side_at applied p) ≡ option_map shown (side_at n p)) → Stands t (put v x (mixed n applied (p ∷ names))) (limit_by (p ∷ names)) air
+    same_said : (((side : Side) × (owner side p ≡ x)) → option_map shown (side_at applied p) ≡ option_map shown (side_at n p))
+        → Stands t (put v x (mixed n applied (p ∷ names))) (limit_by (p ∷ names)) air
     same_said same = stands_higher (limit_by (p ∷ names)) (up_by p names) (stands_same _ (put_alike v x (mixed n applied names) (mixed n applied (p ∷ names)) said) s)
       where
         said : (q : PortName) → (side : Side) × (owner side q ≡ x) → option_map shown (mixed n applied (p ∷ names) q) ≡ option_map shown (mixed n applied names q)
         said q own = elim (cases_port q p) [
           | inr ne ↦ ap (option_map shown) (mixed_other n applied p names q ne)
-          | inl e ↦ ap (λ (q : PortName). option_map shown (mixed n applied (p ∷ names) q)) e ∙ ap (option_map shown) (mixed_this n applied p names) ∙ same (own.0, ap (owner own.0) (sym e) ∙ own.1)
+          | inl e ↦ ap (λ (q : PortName). option_map shown (mixed n applied (p ∷ names) q)) e ∙ ap (option_map shown) (mixed_this n applied p names)
+              ∙ same (own.0, ap (owner own.0) (sym e) ∙ own.1)
               ∙ ap (option_map shown) (sym (mixed_before n applied names p new_name)) ∙ ap (λ (q : PortName). option_map shown (mixed n applied names q)) (sym e)
         ]
 
@@ -216,24 +209,28 @@ module _ (l : RlcLaws) (t : Contents) (air : List (Option Pdu)) (limit : Limits)
           here = put_here v x (mixed n applied (p ∷ names)) (owner side p) p own ∙ mixed_this n applied p names ∙ is_turned;
           others = λ y q ne. elim (cases_node y x) [
             | inr other ↦ put_other v x (mixed n applied (p ∷ names)) y q other ∙ sym (put_other v x (mixed n applied names) y q other)
-            | inl same ↦ put_here v x (mixed n applied (p ∷ names)) y q same ∙ mixed_other n applied p names q (λ e. ne (same ∙ sym own, e)) ∙ sym (put_here v x (mixed n applied names) y q same)
+            | inl same ↦ put_here v x (mixed n applied (p ∷ names)) y q same ∙ mixed_other n applied p names q (λ e. ne (same ∙ sym own, e))
+                ∙ sym (put_here v x (mixed n applied names) y q same)
           ];
         }
 
         -- a port of the remote's own
         own_port : is_of remote p ≡ true → (is_open : Bool) → is_open_on goal p ≡ is_open → Stands t (put v x (mixed n applied (p ∷ names))) (limit_by (p ∷ names)) air
         own_port of true is = opens_stands l s side p was (turned was) in_view refl (put v x (mixed n applied (p ∷ names))) change (limit_by (p ∷ names)) (up_by p names) epoch
-            (cond-true (is_of remote was.name) _ was.entity (ap (is_of remote) (sym its_name) ∙ of) ∙ cond-true (is_open_on goal was.name) _ None (ap (is_open_on goal) (sym its_name) ∙ is))
+            (cond-true (is_of remote was.name) _ was.entity (ap (is_of remote) (sym its_name) ∙ of)
+            ∙ cond-true (is_open_on goal was.name) _ None (ap (is_open_on goal) (sym its_name) ∙ is))
             (omega (arith, cond-false (list_any (is_port p) names) (raised side p) (limit side p) new_name, fresh side p own of))
             (omega (arith, ap (λ (b : Bool). cond (b || list_any (is_port p) names) (raised side p) (limit side p)) (port_refl p), raised_here side p own of))
             (s.ports p epoch) refl
         own_port of false is = closes_stands l s side p was (turned was) in_view refl (put v x (mixed n applied (p ∷ names))) change (limit_by (p ∷ names)) (up_by p names)
-            (cond-true (is_of remote was.name) _ was.entity (ap (is_of remote) (sym its_name) ∙ of) ∙ cond-false (is_open_on goal was.name) (Some (new_entity (settings t) was.size epoch)) None (ap (is_open_on goal) (sym its_name) ∙ is))
+            (cond-true (is_of remote was.name) _ was.entity (ap (is_of remote) (sym its_name) ∙ of)
+            ∙ cond-false (is_open_on goal was.name) (Some (new_entity (settings t) was.size epoch)) None (ap (is_open_on goal) (sym its_name) ∙ is))
 
       -- a port that isn't the remote's stays as it is
       stays_said : is_of remote p ≡ false → option_map shown (side_at applied p) ≡ option_map shown (side_at n p)
       stays_said of = ap (option_map shown) is_turned
-          ∙ ap (λ (e : Option Entity). Some (record { entity = e; size = was.size })) (cond-false (is_of remote was.name) _ was.entity (ap (is_of remote) (sym its_name) ∙ of)) ∙ ap (option_map shown) (sym there)
+          ∙ ap (λ (e : Option Entity). Some (record { entity = e; size = was.size })) (cond-false (is_of remote was.name) _ was.entity (ap (is_of remote) (sym its_name) ∙ of))
+          ∙ ap (option_map shown) (sym there)
 
     one_more : Stands t (put v x (mixed n applied (p ∷ names))) (limit_by (p ∷ names)) air
     one_more = by (side_at n p) refl
@@ -249,7 +246,8 @@ module _ (l : RlcLaws) (t : Contents) (air : List (Option Pdu)) (limit : Limits)
         ]
 
   pub applied_stands : Stands t (put v x (side_at n)) limit air → Stands t (put v x (side_at applied)) raised air
-  applied_stands s = stands_higher raised (λ side q. low side q (list_any (is_port q) (map port_of n.ports))) (all_mixed n applied v x limit_by up_by one_more (λ q none. after_is q ∙ ap (option_map turned) none) s)
+  applied_stands s = stands_higher raised (λ side q. low side q (list_any (is_port q) (map port_of n.ports)))
+      (all_mixed n applied v x limit_by up_by one_more (λ q none. after_is q ∙ ap (option_map turned) none) s)
     where
       low : (side : Side) (q : PortName) (b : Bool) → cond b (raised side q) (limit side q) ≤ raised side q
       low side q true = omega arith
@@ -338,11 +336,13 @@ not_applied c remote kind plan its none = first (Rattle.std.specs.Prelude.not (R
     last true is e = absurd (none-some _ (sym e))
     last false is e = is
 
-    second : (b : Bool) → cond b (Some Rattle.script_text.specs.declared.reply.Reply.TheVariants.NoPlan) (cond (has_applied plan kind) (Some Rattle.script_text.specs.declared.reply.Reply.TheVariants.Already) None) ≡ None → has_applied plan kind ≡ false
+    second : (b : Bool) → cond b (Some Rattle.script_text.specs.declared.reply.Reply.TheVariants.NoPlan)
+        (cond (has_applied plan kind) (Some Rattle.script_text.specs.declared.reply.Reply.TheVariants.Already) None) ≡ None → has_applied plan kind ≡ false
     second true e = absurd (none-some _ (sym e))
     second false e = last (has_applied plan kind) refl e
 
-    first : (b : Bool) → cond b (Some Rattle.script_text.specs.declared.reply.Reply.TheVariants.NoRemote) (node_refusal (plan_at c remote) kind) ≡ None → has_applied plan kind ≡ false
+    first : (b : Bool) → cond b (Some Rattle.script_text.specs.declared.reply.Reply.TheVariants.NoRemote) (node_refusal (plan_at c remote) kind) ≡ None
+        → has_applied plan kind ≡ false
     first true e = absurd (none-some _ (sym e))
     first false e = second (Rattle.std.specs.Prelude.not (is_open plan)) (ap (λ (p : Option Plan). node_refusal p kind) (sym its) ∙ e)
 
@@ -357,13 +357,15 @@ closed_holds remote c h = record {
 }
   where
     same : (y : NodeName) (q : PortName) → view_in (map (node_closed remote) c.nodes) y q ≡ view_in c.nodes y q
-    same y q = ap (λ (o : Option Node). side_at (unwrap_or o (no_node y)) q) (find_map (node_closed remote) (λ (n : Node). is_node y n.name) c.nodes) ∙ by (find (λ (n : Node). is_node y n.name) c.nodes)
+    same y q = ap (λ (o : Option Node). side_at (unwrap_or o (no_node y)) q) (find_map (node_closed remote) (λ (n : Node). is_node y n.name) c.nodes)
+        ∙ by (find (λ (n : Node). is_node y n.name) c.nodes)
       where
         by : (o : Option Node) → side_at (unwrap_or (option_map (node_closed remote) o) (no_node y)) q ≡ side_at (unwrap_or o (no_node y)) q
         by None = refl
         by (Some n) = refl
 
-pub applies_hold : (l : RlcLaws) (old : Chain) (remote : Remote) (kind : NodeKind) (events : List Event) (reply : Reply) (new : Chain) → Holds old → apply_refusal old remote kind ≡ None → Applies old remote kind events reply new → Holds new
+pub applies_hold : (l : RlcLaws) (old : Chain) (remote : Remote) (kind : NodeKind) (events : List Event) (reply : Reply) (new : Chain) → Holds old
+    → apply_refusal old remote kind ≡ None → Applies old remote kind events reply new → Holds new
 applies_hold l old remote kind events reply new h none a = subst Holds (sym a.is) (close (is_open (marks a.plan kind)))
   where
     x : NodeName
@@ -392,10 +394,12 @@ applies_hold l old remote kind events reply new h none a = subst Holds (sym a.is
         let gone : find (λ (y : Node). is_node m.name y.name) old.nodes ≡ None = ap (λ (y : NodeName). find (λ (n : Node). is_node y n.name) old.nodes) (node_name old x) ∙ is in
         stands_higher up (raised_up l old.tables old.air h.limit (view old) n x remote a.plan.goal a.plan.epoch fresh)
         (subst (λ (ns : List Node). Stands old.tables (view_in ns) h.limit old.air) (sym (find_none (λ (y : Node). is_node m.name y.name) m old.nodes gone)) h.stands)
-    stands (Some was) is = set_stands old x m was (node_name old x) is (applied_stands l old.tables old.air h.limit (view old) n x remote a.plan.goal a.plan.epoch fresh (put_own old.nodes x h.stands))
+    stands (Some was) is = set_stands old x m was (node_name old x) is
+        (applied_stands l old.tables old.air h.limit (view old) n x remote a.plan.goal a.plan.epoch fresh (put_own old.nodes x h.stands))
 
     -- what is next behind the plan that is marked
-    next_here : (side : Side) (name : PortName) → is_of remote name ≡ true → (b : Bool) → is_node x (owner side name) ≡ b → cond b (a.plan.epoch + 1) (h.limit side name) ≤ next_epoch (marks a.plan kind) (kind_of (owner side name))
+    next_here : (side : Side) (name : PortName) → is_of remote name ≡ true → (b : Bool) → is_node x (owner side name) ≡ b
+        → cond b (a.plan.epoch + 1) (h.limit side name) ≤ next_epoch (marks a.plan kind) (kind_of (owner side name))
     next_here side name of true is = omega (arith, ap (next_epoch (marks a.plan kind)) (kind_here side name (sym (node_is x (owner side name) is))), marked_here a.plan kind)
     next_here side name of false is = omega (arith, h.fresh remote a.plan a.its side name of, marked_up a.plan kind (kind_of (owner side name)))
 
@@ -406,7 +410,12 @@ applies_hold l old remote kind events reply new h none a = subst Holds (sym a.is
       fresh = λ r q is side name of. elim (plan_was (set_node old m) remote a.plan (marks a.plan kind) a.its (same_remote a.plan kind) r q is) [
         | inl this ↦ subst (λ (q : Plan). up side name ≤ next_epoch q (kind_of (owner side name))) (sym this.1)
             (let its = subst (λ (r : Remote). is_of r name ≡ true) this.0 of in
-            omega (arith, next_here side name its (is_node x (owner side name)) refl, ap (λ (b : Bool). cond (b && is_node x (owner side name)) (a.plan.epoch + 1) (h.limit side name)) its))
+            omega (
+              arith,
+              next_here side name its (is_node x (owner side name)) refl,
+              ap
+                  (λ (b : Bool). cond (b && is_node x (owner side name)) (a.plan.epoch + 1) (h.limit side name)) its,
+            ))
         | inr other ↦ omega (arith, h.fresh r q other.1 side name of, not_its side name (λ its. other.0 (one_remote r remote name of its)))
       ];
       nodes = each_replaced NodeFits (λ (y : Node). is_node m.name y.name) m (applied_fits old.tables remote a.plan.goal a.plan.epoch n (node_fits old h x)) old.nodes h.nodes;

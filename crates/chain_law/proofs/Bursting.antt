@@ -20,7 +20,7 @@ use Rattle.node_model.specs.Relaying.{parcel_tag}
 use Rattle.chain_model.specs.State.{Chain, node_at, set_node}
 use Rattle.chain_model.specs.Lines.{is_handed_over}
 use Rattle.chain_model.specs.Bursts.{goes_over, inbox, with_side, Treats, Ingests, ends, stops, pushes, hears, Ingress, Egress, GivesEach, GivesAll, Emits, air_after, behind_ingress, behind_egress}
-use Rattle.chain_law.proofs.Names.{cases_node, port_refl, port_apart, cases_port}
+use Rattle.node_model.proofs.Names.{cases_node, port_refl, port_apart, cases_port}
 use Rattle.chain_law.proofs.Pairs.{each_passes}
 use Rattle.chain_law.specs.Foundations.{RlcLaws}
 use Rattle.chain_law.proofs.Stands.{Stands, moves, shown, put, put_alike, stands_same, window, calls, SideChanges, node_stands, window_shown}
@@ -38,7 +38,8 @@ alone_here p s name = cond-true (is_port p s.name) (Some s) None (ap (is_port p)
 alone_changes : (p : PortName) (was now : PortSide) → was.name ≡ p → now.name ≡ p → SideChanges (alone was) p now (alone now)
 alone_changes p was now name new_name = record {
   here = alone_here p now new_name;
-  others = λ q ne. cond-false (is_port q now.name) (Some now) None (port_apart q now.name (λ e. ne (e ∙ new_name))) ∙ sym (cond-false (is_port q was.name) (Some was) None (port_apart q was.name (λ e. ne (e ∙ name))));
+  others = λ q ne. cond-false (is_port q now.name) (Some now) None (port_apart q now.name (λ e. ne (e ∙ new_name)))
+      ∙ sym (cond-false (is_port q was.name) (Some was) None (port_apart q was.name (λ e. ne (e ∙ name))));
 }
 
 -- the sides of ports where this one stands in the place of its port's
@@ -52,7 +53,8 @@ one_other : (p : PortName) (rest : PortName → Option PortSide) (s : PortSide) 
 one_other p rest s q ne = cond-false (is_port p q) (side_at (alone s) q) (rest q) (port_apart p q (λ e. ne (sym e)))
 
 -- sides of ports that agree at a port with one side, and elsewhere with others, are those
-pub one_is : (p : PortName) (rest : PortName → Option PortSide) (s : PortSide) (sides : PortName → Option PortSide) → s.name ≡ p → sides p ≡ Some s → ((q : PortName) → (q ≡ p → ⊥) → sides q ≡ rest q) → (q : PortName) → with_one p rest s q ≡ sides q
+pub one_is : (p : PortName) (rest : PortName → Option PortSide) (s : PortSide) (sides : PortName → Option PortSide) → s.name ≡ p → sides p ≡ Some s
+    → ((q : PortName) → (q ≡ p → ⊥) → sides q ≡ rest q) → (q : PortName) → with_one p rest s q ≡ sides q
 one_is p rest s sides name here others q = elim (cases_port q p) [
   | inl same ↦ one_here p rest s q name same ∙ sym here ∙ ap sides (sym same)
   | inr ne ↦ one_other p rest s q ne ∙ sym (others q ne)
@@ -69,7 +71,8 @@ module _ (l : RlcLaws) where
   pub folded_holds : (events : List Event) (c : Chain) → Holds c → Holds (record c { air = fold air_after c.air events })
   folded_holds [] c h = record { limit = h.limit; stands = h.stands; fresh = h.fresh; nodes = h.nodes; tickets = h.tickets }
   folded_holds (e ∷ events) c h = folded_holds events (record c { air = air_after c.air e }) (elim (air_case c.air e) [
-    | inl same ↦ subst (λ (air : List (Option Pdu)). Holds (record c { air = air })) (sym same) (record { limit = h.limit; stands = h.stands; fresh = h.fresh; nodes = h.nodes; tickets = h.tickets })
+    | inl same ↦ subst (λ (air : List (Option Pdu)). Holds (record c { air = air })) (sym same)
+        (record { limit = h.limit; stands = h.stands; fresh = h.fresh; nodes = h.nodes; tickets = h.tickets })
     | inr off ↦ subst (λ (air : List (Option Pdu)). Holds (record c { air = air })) (sym off.1) (off_holds l c off.0 h)
   ])
 
@@ -95,7 +98,8 @@ module _ (l : RlcLaws) where
 
       -- a side of which the same is said stands alike
       resaid : (was now : PortSide) → now.name ≡ was.name → shown now ≡ shown was → StandsWith (with_one p rest was) → StandsWith (with_one p rest now)
-      resaid was now name same s = stands_same _ (put_alike (view c) AtRelay (with_one p rest was) (with_one p rest now) (λ q own. window_shown (is_port p) rest (alone was) (alone now) q
+      resaid was now name same s = stands_same _
+          (put_alike (view c) AtRelay (with_one p rest was) (with_one p rest now) (λ q own. window_shown (is_port p) rest (alone was) (alone now) q
           (ap (λ (x : PortName). option_map shown (cond (is_port q x) (Some now) None)) name ∙ by (is_port q was.name)))) s
         where
           by : (b : Bool) → option_map shown (cond b (Some now) None) ≡ option_map shown (cond b (Some was) None)
@@ -103,7 +107,8 @@ module _ (l : RlcLaws) where
           by false = refl
 
       -- the PDU of a ticket is treated
-      treated : (side new : PortSide) (ticket : ℕ) (pdu : Pdu) (reply : Reply) → OnItsWay side → on_air c.air ticket ≡ Some pdu → is_port p pdu.port ≡ true → Treats c pdu side reply new → OnItsWay new
+      treated : (side new : PortSide) (ticket : ℕ) (pdu : Pdu) (reply : Reply) → OnItsWay side → on_air c.air ticket ≡ Some pdu → is_port p pdu.port ≡ true
+          → Treats c pdu side reply new → OnItsWay new
       treated side new ticket pdu reply o on over t = by (cases_node x AtRelay)
         where
           x : NodeName
@@ -133,14 +138,16 @@ module _ (l : RlcLaws) where
 
           heard_elsewhere : (x ≡ AtRelay → ⊥) → (b : Bool) → side_at (node_at (cond b (set_node (with_side c side) t.2.node) (with_side c side)) AtRelay) side.name ≡ Some side
           heard_elsewhere ne true = ap (λ (y : Node). side_at y side.name)
-              (node_kept (with_side c side) x t.2.node (hears_name c.tables _ (hearer_of pdu.way) pdu t.2.answer t.2.node t.2.hears ∙ node_name (with_side c side) x) AtRelay (λ e. ne (sym e)) ∙ found) ∙ unchanged
+              (node_kept (with_side c side) x t.2.node (hears_name c.tables _ (hearer_of pdu.way) pdu t.2.answer t.2.node t.2.hears ∙ node_name (with_side c side) x) AtRelay
+              (λ e. ne (sym e)) ∙ found) ∙ unchanged
           heard_elsewhere ne false = ap (λ (y : Node). side_at y side.name) found ∙ unchanged
 
           module_heard : x ≡ AtRelay → (b : Bool) → side_at (node_at (cond b (set_node (with_side c side) t.2.node) (with_side c side)) AtRelay) side.name ≡ Some new → OnItsWay new
           module_heard is false e = subst OnItsWay (same_Some side new (sym (ap (λ (y : Node). side_at y side.name) found ∙ unchanged) ∙ e)) o
           module_heard is true e = record {
             stands = alike (window (is_port p) rest node) (with_one p rest new) (one_is p rest new (window (is_port p) rest node) name_new
-                (cond-true (is_port p p) (side_at node p) (rest p) (port_refl p) ∙ is_new) (λ q ne. cond-false (is_port p q) (side_at node q) (rest q) (port_apart p q (λ e. ne (sym e)))))
+                (cond-true (is_port p p) (side_at node p) (rest p) (port_refl p) ∙ is_new)
+                (λ q ne. cond-false (is_port p q) (side_at node q) (rest q) (port_apart p q (λ e. ne (sym e)))))
                 (subst (λ (y : NodeName). Stands c.tables (put (view c) y (window (is_port p) rest node)) h.limit c.air) is heard.0);
             fits = side_fits node p new heard.1.fits is_new;
             name = name_new;
@@ -155,7 +162,8 @@ module _ (l : RlcLaws) where
               before : Stands c.tables (put (view c) x (window (is_port p) rest n)) h.limit c.air
               before = subst (λ (y : NodeName). Stands c.tables (put (view c) y (window (is_port p) rest n)) h.limit c.air) (sym is)
                   (alike (with_one p rest side) (window (is_port p) rest n) (λ q. sym (one_is p rest side (window (is_port p) rest n) o.name
-                  (cond-true (is_port p p) (side_at n p) (rest p) (port_refl p) ∙ sc.here) (λ q ne. cond-false (is_port p q) (side_at n q) (rest q) (port_apart p q (λ e. ne (sym e)))) q)) o.stands)
+                  (cond-true (is_port p p) (side_at n p) (rest p) (port_refl p) ∙ sc.here)
+                  (λ q ne. cond-false (is_port p q) (side_at n q) (rest q) (port_apart p q (λ e. ne (sym e)))) q)) o.stands)
 
               heard : Stands c.tables (put (view c) x (window (is_port p) rest node)) h.limit c.air × Rattle.chain_law.proofs.Hearing.HearsOn n pdu.port node
               heard = hears_stand l c.tables (view c) (is_port p) rest ticket pdu on over n node t.2.answer (fits_side relay side (node_fits c h AtRelay) o.fits)
@@ -175,7 +183,8 @@ module _ (l : RlcLaws) where
           by (inr ne) = stays (ap (λ (d : Chain). side_at (node_at d AtRelay) side.name) t.2.is ∙ heard_elsewhere ne (is_handed_over t.2.answer))
 
       -- an ingress port works
-      ingested : {side new : PortSide} {tickets left : List ℕ} {heard : List Event} {put : List Parcel} → OnItsWay side → AllByRecursion (λ (ticket : ℕ). goes_over p (on_air c.air ticket) ≡ true) tickets → Ingests c side tickets heard put left new
+      ingested : {side new : PortSide} {tickets left : List ℕ} {heard : List Event} {put : List Parcel} → OnItsWay side
+          → AllByRecursion (λ (ticket : ℕ). goes_over p (on_air c.air ticket) ≡ true) tickets → Ingests c side tickets heard put left new
           → OnItsWay new × AllByRecursion ParcelFits put
       ingested o over (ends none) = (o, tt)
       ingested o over (stops full) = (o, tt)
@@ -191,17 +200,22 @@ module _ (l : RlcLaws) where
 
       -- an egress port gives its transmitter SDUs
       given : (side : PortSide) (entity : Entity) (a tx : Tx) (parcels : List Parcel) → side.name ≡ p → AllByRecursion ParcelFits parcels → GivesEach a parcels tx
-          → StandsWith (with_one p rest (record side { entity = Some (record entity { tx = a }) })) → StandsWith (with_one p rest (record side { entity = Some (record entity { tx = tx }) }))
+          → StandsWith (with_one p rest (record side { entity = Some (record entity { tx = a }) }))
+          → StandsWith (with_one p rest (record side { entity = Some (record entity { tx = tx }) }))
       given side entity a tx [] name fits g s = subst (λ (tx : Tx). StandsWith (with_one p rest (record side { entity = Some (record entity { tx = tx }) }))) (sym g) s
       given side entity a tx (parcel ∷ parcels) name fits g s =
           given side entity g.1 tx parcels name fits.1 g.3
           (node_stands l (view c) AtRelay (is_port p) rest
-          (calls p (record side { entity = Some (record entity { tx = a }) }) (record side { entity = Some (record entity { tx = g.1 }) }) (record entity { tx = a }) g.1 entity.rx (alone_here p _ name) refl refl refl
-          (λ at q is. let m = l.give_moves q at a entity.rx is (parcel_tag parcel) parcel.sdu g.0 g.1 fits.0.some fits.0.most g.2 in moves (way_from at) (Give (parcel_tag parcel) parcel.sdu) m.0 refl m.1)
+          (calls p (record side { entity = Some (record entity { tx = a }) }) (record side { entity = Some (record entity { tx = g.1 }) })
+          (record entity { tx = a }) g.1 entity.rx (alone_here p _ name) refl refl refl
+          (λ at q is. let m = l.give_moves q at a entity.rx is (parcel_tag parcel) parcel.sdu g.0 g.1 fits.0.some fits.0.most g.2 in moves (way_from at)
+          (Give (parcel_tag parcel) parcel.sdu) m.0 refl m.1)
           (alone_changes p _ _ name name)) s)
 
-      pub emitted : (capacity : ℕ) (put : List Parcel) (side : PortSide) (e : Egress) → side.name ≡ p → AllByRecursion ParcelFits e.taken → Emits capacity put side e → StandsWith (with_one p rest side) → StandsWith (with_one p rest e.behind)
-      emitted capacity put side e name fits m s = subst (λ (b : PortSide). StandsWith (with_one p rest b)) (sym m.is) (resaid (record side { entity = e.behind.entity }) (record side { entity = e.behind.entity; queue = e.behind.queue }) refl refl (by side.entity refl m.gives))
+      pub emitted : (capacity : ℕ) (put : List Parcel) (side : PortSide) (e : Egress) → side.name ≡ p → AllByRecursion ParcelFits e.taken → Emits capacity put side e
+          → StandsWith (with_one p rest side) → StandsWith (with_one p rest e.behind)
+      emitted capacity put side e name fits m s = subst (λ (b : PortSide). StandsWith (with_one p rest b)) (sym m.is)
+          (resaid (record side { entity = e.behind.entity }) (record side { entity = e.behind.entity; queue = e.behind.queue }) refl refl (by side.entity refl m.gives))
         where
           by : (o : Option Entity) → side.entity ≡ o → GivesAll o e.taken e.behind.entity → StandsWith (with_one p rest (record side { entity = e.behind.entity }))
           by None is g = subst (λ (o : Option Entity). StandsWith (with_one p rest (record side { entity = o }))) (is ∙ sym g.1) s
@@ -217,7 +231,8 @@ module _ (l : RlcLaws) where
     abbrev pub Ingesting : PortSide → Ingress → Type 0
     Ingesting side i = Ingests c side (inbox c side.name) i.heard i.put i.left i.behind
 
-    pub joined : (cap : ℕ) (put : List Parcel) (ports : List PortSide) (ingresses : List Ingress) (egresses : List Egress) → AllZip Ingesting ports ingresses → AllZip (Emits cap put) (map behind_ingress ingresses) egresses → AllZip (Burst cap put) ports egresses
+    pub joined : (cap : ℕ) (put : List Parcel) (ports : List PortSide) (ingresses : List Ingress) (egresses : List Egress) → AllZip Ingesting ports ingresses
+        → AllZip (Emits cap put) (map behind_ingress ingresses) egresses → AllZip (Burst cap put) ports egresses
     joined cap put [] [] [] first second = tt
     joined cap put (s ∷ ss) (i ∷ is) (e ∷ es) first second = (record { i = i; ingests = first.0; emits = second.0 }, joined cap put ss is es first.1 second.1)
     joined cap put [] [] (e ∷ es) first second = absurd second
@@ -238,12 +253,14 @@ module _ (l : RlcLaws) where
     module _ (cap : ℕ) (put : List Parcel) where
       pub names_stay : (ports : List PortSide) (egresses : List Egress) → AllZip (Burst cap put) ports egresses → map port_of (map behind_egress egresses) ≡ map port_of ports
       names_stay [] [] all = refl
-      names_stay (s ∷ ss) (e ∷ es) all = ap (λ (p : PortName). p ∷ map port_of (map behind_egress es)) (burst_name cap put s e all.0) ∙ ap (λ (ps : List PortName). s.name ∷ ps) (names_stay ss es all.1)
+      names_stay (s ∷ ss) (e ∷ es) all = ap (λ (p : PortName). p ∷ map port_of (map behind_egress es)) (burst_name cap put s e all.0)
+          ∙ ap (λ (ps : List PortName). s.name ∷ ps) (names_stay ss es all.1)
       names_stay [] (e ∷ es) all = absurd all
       names_stay (s ∷ ss) [] all = absurd all
 
       -- what is found of a port before the burst is found behind it
-      pub found_behind : (q : PortName) (ports : List PortSide) (egresses : List Egress) → AllZip (Burst cap put) ports egresses → (side : PortSide) → find (λ (s : PortSide). is_port q s.name) ports ≡ Some side
+      pub found_behind : (q : PortName) (ports : List PortSide) (egresses : List Egress) → AllZip (Burst cap put) ports egresses → (side : PortSide)
+          → find (λ (s : PortSide). is_port q s.name) ports ≡ Some side
           → (e : Egress) × (find (λ (s : PortSide). is_port q s.name) (map behind_egress egresses) ≡ Some e.behind) × Burst cap put side e
       found_behind q [] egresses all side is = absurd (none-some side is)
       found_behind q (s ∷ ss) [] all side is = absurd all
@@ -258,25 +275,30 @@ module _ (l : RlcLaws) where
             (rest.0, cond-false (is_port q e.behind.name) (Some e.behind) _ (ap (is_port q) (burst_name cap put s e all.0) ∙ fails) ∙ rest.1, rest.2)
       ]
 
-      pub none_behind : (q : PortName) (ports : List PortSide) (egresses : List Egress) → AllZip (Burst cap put) ports egresses → find (λ (s : PortSide). is_port q s.name) ports ≡ None → find (λ (s : PortSide). is_port q s.name) (map behind_egress egresses) ≡ None
+      pub none_behind : (q : PortName) (ports : List PortSide) (egresses : List Egress) → AllZip (Burst cap put) ports egresses
+          → find (λ (s : PortSide). is_port q s.name) ports ≡ None → find (λ (s : PortSide). is_port q s.name) (map behind_egress egresses) ≡ None
       none_behind q [] [] all none = refl
       none_behind q [] (e ∷ es) all none = absurd all
       none_behind q (s ∷ ss) [] all none = absurd all
       none_behind q (s ∷ ss) (e ∷ es) all none = elim (cases_Bool (is_port q s.name)) [
         | inl passed ↦ absurd (none-some s (sym none ∙ cond-true (is_port q s.name) (Some s) _ passed))
-        | inr fails ↦ cond-false (is_port q e.behind.name) (Some e.behind) _ (ap (is_port q) (burst_name cap put s e all.0) ∙ fails) ∙ none_behind q ss es all.1 (sym (cond-false (is_port q s.name) (Some s) _ fails) ∙ none)
+        | inr fails ↦ cond-false (is_port q e.behind.name) (Some e.behind) _ (ap (is_port q) (burst_name cap put s e all.0) ∙ fails)
+            ∙ none_behind q ss es all.1 (sym (cond-false (is_port q s.name) (Some s) _ fails) ∙ none)
       ]
 
     -- the sides with one of them in its own place are those of the relay
-    pub own_place : (side : PortSide) (p : PortName) (sides : PortName → Option PortSide) → side.name ≡ p → sides p ≡ Some side → StandsWith sides → StandsWith (with_one p sides side)
+    pub own_place : (side : PortSide) (p : PortName) (sides : PortName → Option PortSide) → side.name ≡ p → sides p ≡ Some side → StandsWith sides
+        → StandsWith (with_one p sides side)
     own_place side p sides name here = alike sides (with_one p sides side) (one_is p sides side sides name here (λ q ne. refl))
 
     -- each ingress port works from the chain as it stands
-    pub ingress_works : (side : PortSide) (i : Ingress) (p : PortName) (sides : PortName → Option PortSide) (there : side_at relay p ≡ Some side) → SideFits side → sides p ≡ Some side → StandsWith sides → Ingesting side i → OnItsWay p side there sides i.behind × AllByRecursion ParcelFits i.put
+    pub ingress_works : (side : PortSide) (i : Ingress) (p : PortName) (sides : PortName → Option PortSide) (there : side_at relay p ≡ Some side) → SideFits side
+        → sides p ≡ Some side → StandsWith sides → Ingesting side i → OnItsWay p side there sides i.behind × AllByRecursion ParcelFits i.put
     ingress_works side i p sides there fits here s w = ingested p side there sides (record { stands = own_place side p sides name here s; fits = fits; name = name }) over w
       where
         name : side.name ≡ p
         name = sym (side_name relay p side there)
 
         over : AllByRecursion (λ (ticket : ℕ). goes_over p (on_air c.air ticket) ≡ true) (inbox c side.name)
-        over = subst (λ (q : PortName). AllByRecursion (λ (ticket : ℕ). goes_over q (on_air c.air ticket) ≡ true) (inbox c side.name)) name (each_passes (λ (ticket : ℕ). goes_over side.name (on_air c.air ticket)) c.staged)
+        over = subst (λ (q : PortName). AllByRecursion (λ (ticket : ℕ). goes_over q (on_air c.air ticket) ≡ true) (inbox c side.name)) name
+            (each_passes (λ (ticket : ℕ). goes_over side.name (on_air c.air ticket)) c.staged)

@@ -11,8 +11,8 @@ use Rattle.node_model.specs.State.{PortSide, Node, side_at}
 use Rattle.chain_model.specs.State.{Chain, node_at, set_node}
 use Rattle.chain_model.specs.Lines.{queue_capacity}
 use Rattle.chain_model.specs.Bursts.{Ingress, Egress, all_put, is_from, goes_to, Emits, behind_ingress, behind_egress, Bursts}
-use Rattle.chain_law.proofs.Names.{port_refl, port_apart}
-use Rattle.chain_law.proofs.Finding.{each_append, each_left, each_right, each_replaced, find_none}
+use Rattle.node_model.proofs.Names.{port_refl, port_apart}
+use Rattle.node_model.proofs.Finding.{each_append, each_left, each_right, each_replaced, find_none}
 use Rattle.chain_law.proofs.Pairs.{Pairwise, each_picked}
 use Rattle.chain_law.specs.Foundations.{RlcLaws}
 use Rattle.chain_law.proofs.Stands.{Stands, put}
@@ -26,14 +26,17 @@ all_found : (ports : List PortSide) → Pairwise Differ (map port_of ports) → 
 all_found [] apart = tt
 all_found (s ∷ ss) apart = (cond-true (is_port s.name s.name) (Some s) _ (port_refl s.name), behind ss apart.0 (all_found ss apart.1))
   where
-    behind : (rest : List PortSide) → AllByRecursion (Differ s.name) (map port_of rest) → AllByRecursion (λ (x : PortSide). find (λ (y : PortSide). is_port x.name y.name) ss ≡ Some x) rest
+    behind : (rest : List PortSide) → AllByRecursion (Differ s.name) (map port_of rest)
+        → AllByRecursion (λ (x : PortSide). find (λ (y : PortSide). is_port x.name y.name) ss ≡ Some x) rest
         → AllByRecursion (λ (x : PortSide). find (λ (y : PortSide). is_port x.name y.name) (s ∷ ss) ≡ Some x) rest
     behind [] others all = tt
     behind (x ∷ xs) others all = (cond-false (is_port x.name s.name) (Some s) _ (port_apart x.name s.name (λ e. others.0 (sym e))) ∙ all.0, behind xs others.1 all.1)
 
 -- what fits of each port's SDUs fits of all
-came_fit : (came put : List Parcel) (takes : Parcel → Bool) → AllByRecursion ParcelFits put → ((port : PortName) → filter (is_from port) came ≡ filter (λ parcel. is_from port parcel && takes parcel) put) → AllByRecursion ParcelFits came
-came_fit came put takes fits each = by came (λ port. subst (AllByRecursion ParcelFits) (sym (each port)) (each_picked ParcelFits (λ parcel. is_from port parcel && takes parcel) put fits))
+came_fit : (came put : List Parcel) (takes : Parcel → Bool) → AllByRecursion ParcelFits put
+    → ((port : PortName) → filter (is_from port) came ≡ filter (λ parcel. is_from port parcel && takes parcel) put) → AllByRecursion ParcelFits came
+came_fit came put takes fits each = by came
+    (λ port. subst (AllByRecursion ParcelFits) (sym (each port)) (each_picked ParcelFits (λ parcel. is_from port parcel && takes parcel) put fits))
   where
     by : (came : List Parcel) → ((port : PortName) → AllByRecursion ParcelFits (filter (is_from port) came)) → AllByRecursion ParcelFits came
     by [] all = tt
@@ -43,7 +46,8 @@ came_fit came put takes fits each = by came (λ port. subst (AllByRecursion Parc
         head true is all = all.0
         head false is all = absurd (Rattle.std.proofs.lemmas.Bool.false≢true is)
 
-        tail : (b : Bool) (port : PortName) → AllByRecursion ParcelFits (cond b (x ∷ filter (is_from port) xs) (filter (is_from port) xs)) → AllByRecursion ParcelFits (filter (is_from port) xs)
+        tail : (b : Bool) (port : PortName) → AllByRecursion ParcelFits (cond b (x ∷ filter (is_from port) xs) (filter (is_from port) xs))
+            → AllByRecursion ParcelFits (filter (is_from port) xs)
         tail true port all = all.1
         tail false port all = all
 
@@ -76,7 +80,8 @@ bursts_hold l old events reply new h b = subst Holds (sym b.is) (forgotten (fold
     own : Stands old.tables (put (view old) AtRelay (side_at n)) h.limit old.air
     own = put_own old.nodes AtRelay h.stands
 
-    ends : (ports : List PortSide) (ingresses : List Ingress) → AllZip (Ingesting l old h) ports ingresses → AllByRecursion (λ (s : PortSide). side_at n s.name ≡ Some s) ports → AllByRecursion SideFits ports → AllByRecursion Ended ingresses
+    ends : (ports : List PortSide) (ingresses : List Ingress) → AllZip (Ingesting l old h) ports ingresses → AllByRecursion (λ (s : PortSide). side_at n s.name ≡ Some s) ports
+        → AllByRecursion SideFits ports → AllByRecursion Ended ingresses
     ends [] [] all there fit = tt
     ends (s ∷ ss) (i ∷ is) all there fit =
         let w = ingress_works l old h s i s.name (side_at n) there.0 fit.0 there.0 own all.0 in
@@ -98,7 +103,8 @@ bursts_hold l old events reply new h b = subst Holds (sym b.is) (forgotten (fold
     taken_fits : (s : PortSide) (e : Egress) → SideFits s → Emits cap put_all s e → AllByRecursion ParcelFits (e.taken ++ e.behind.queue)
     taken_fits s e was x = subst (AllByRecursion ParcelFits) x.queued (each_append ParcelFits s.queue e.came was.queue (came_fit e.came put_all (goes_to s.name) put_fits x.each))
 
-    sides_fit : (ingresses : List Ingress) (egresses : List Egress) → AllByRecursion Ended ingresses → AllZip (Emits cap put_all) (map behind_ingress ingresses) egresses → AllByRecursion SideFits (map behind_egress egresses)
+    sides_fit : (ingresses : List Ingress) (egresses : List Egress) → AllByRecursion Ended ingresses → AllZip (Emits cap put_all) (map behind_ingress ingresses) egresses
+        → AllByRecursion SideFits (map behind_egress egresses)
     sides_fit [] [] all x = tt
     sides_fit (i ∷ is) (e ∷ es) all x = (
       subst SideFits (sym x.0.is) (record { slot = all.0.side.slot; queue = each_right ParcelFits e.taken e.behind.queue (taken_fits i.behind e all.0.side x.0) }),
@@ -118,9 +124,10 @@ bursts_hold l old events reply new h b = subst Holds (sym b.is) (forgotten (fold
         by None is = alike l old h (mixed n m names) (mixed n m (p ∷ names)) same s
           where
             same : (q : PortName) → mixed n m (p ∷ names) q ≡ mixed n m names q
-            same q = elim (Rattle.chain_law.proofs.Names.cases_port q p) [
+            same q = elim (Rattle.node_model.proofs.Names.cases_port q p) [
               | inr ne ↦ mixed_other n m p names q ne
-              | inl e ↦ ap (mixed n m (p ∷ names)) e ∙ mixed_this n m p names ∙ none_behind l old h cap put_all p n.ports b.egresses zipped is ∙ sym (mixed_before n m names p new_name ∙ is) ∙ ap (mixed n m names) (sym e)
+              | inl e ↦ ap (mixed n m (p ∷ names)) e ∙ mixed_this n m p names ∙ none_behind l old h cap put_all p n.ports b.egresses zipped is
+                  ∙ sym (mixed_before n m names p new_name ∙ is) ∙ ap (mixed n m names) (sym e)
             ]
         by (Some side) there =
             let found = found_behind l old h cap put_all p n.ports b.egresses zipped side there in

@@ -18,8 +18,8 @@ use Rattle.chain_model.specs.Lines.{without}
 use Rattle.chain_model.specs.Steps.{FeedsAll}
 use Rattle.chain_model.specs.Told.{kind_of}
 use Rattle.chain_law.specs.Entities.{next_epoch}
-use Rattle.chain_law.proofs.Names.{node_is, node_refl, node_apart, cases_node}
-use Rattle.chain_law.proofs.Finding.{find_passes, find_hit, find_miss, find_none, each_found, each_replaced}
+use Rattle.node_model.proofs.Names.{node_is, node_refl, node_apart, cases_node}
+use Rattle.node_model.proofs.Finding.{find_passes, find_hit, find_miss, find_none, each_found, each_replaced}
 use Rattle.chain_law.proofs.Counting.{air_long}
 use Rattle.chain_law.specs.Foundations.{RlcLaws}
 use Rattle.chain_law.proofs.Stands.{View, Limits, Stands, shown, put, put_here, put_other, stands_same, stands_off, node_stands, all_seen, no_rest}
@@ -40,7 +40,8 @@ view c = view_in c.nodes
 pub record Holds (c : Chain) : Type 0 where
   pub limit : Limits
   pub stands : Stands c.tables (view c) limit c.air
-  pub fresh : (remote : Remote) (plan : Plan) → plan_at c remote ≡ Some plan → (side : Side) (name : PortName) → is_of remote name ≡ true → limit side name ≤ next_epoch plan (kind_of (owner side name))
+  pub fresh : (remote : Remote) (plan : Plan) → plan_at c remote ≡ Some plan → (side : Side) (name : PortName) → is_of remote name ≡ true
+      → limit side name ≤ next_epoch plan (kind_of (owner side name))
   pub nodes : AllByRecursion NodeFits c.nodes
   pub tickets : length c.air ≤ 2305843009213693952
 
@@ -62,7 +63,8 @@ node_name c x = go (find (λ (n : Node). is_node x n.name) c.nodes) refl
     go (Some n) is = sym (node_is x n.name (find_passes (λ (n : Node). is_node x n.name) c.nodes n is))
 
 -- a node that has a side of a port is one of the chain's
-pub node_there : (c : Chain) (x : NodeName) (port : PortName) (s : PortSide) → side_at (node_at c x) port ≡ Some s → find (λ (n : Node). is_node x n.name) c.nodes ≡ Some (node_at c x)
+pub node_there : (c : Chain) (x : NodeName) (port : PortName) (s : PortSide) → side_at (node_at c x) port ≡ Some s
+    → find (λ (n : Node). is_node x n.name) c.nodes ≡ Some (node_at c x)
 node_there c x port s e = go (find (λ (n : Node). is_node x n.name) c.nodes) refl
   where
     go : (o : Option Node) → find (λ (n : Node). is_node x n.name) c.nodes ≡ o → find (λ (n : Node). is_node x n.name) c.nodes ≡ Some (node_at c x)
@@ -73,7 +75,8 @@ node_there c x port s e = go (find (λ (n : Node). is_node x n.name) c.nodes) re
 module _ (c : Chain) (x : NodeName) (m : Node) (name : m.name ≡ x) where
   pub node_set : (was : Node) → find (λ (n : Node). is_node x n.name) c.nodes ≡ Some was → node_at (set_node c m) x ≡ m
   node_set was e = ap (λ (o : Option Node). unwrap_or o (no_node x))
-      (find_hit (λ (n : Node). is_node x n.name) (λ (n : Node). is_node m.name n.name) m (λ n. ap (λ (y : NodeName). is_node y n.name) (sym name)) (ap (is_node x) name ∙ node_refl x) c.nodes was e)
+      (find_hit (λ (n : Node). is_node x n.name) (λ (n : Node). is_node m.name n.name) m (λ n. ap (λ (y : NodeName). is_node y n.name) (sym name))
+      (ap (is_node x) name ∙ node_refl x) c.nodes was e)
 
   pub node_kept : (y : NodeName) → (y ≡ x → ⊥) → node_at (set_node c m) y ≡ node_at c y
   node_kept y ne = ap (λ (o : Option Node). unwrap_or o (no_node y))
@@ -90,16 +93,18 @@ module _ {t : Contents} {limit : Limits} {air : List (Option Pdu)} where
       same y q (inr ne) = put_other (view_in nodes) x (side_at (node_in nodes x)) y q ne
 
   -- and where a node is set
-  pub set_stands : (c : Chain) (x : NodeName) (m was : Node) → m.name ≡ x → find (λ (n : Node). is_node x n.name) c.nodes ≡ Some was → Stands t (put (view c) x (side_at m)) limit air → Stands t (view (set_node c m)) limit air
+  pub set_stands : (c : Chain) (x : NodeName) (m was : Node) → m.name ≡ x → find (λ (n : Node). is_node x n.name) c.nodes ≡ Some was
+      → Stands t (put (view c) x (side_at m)) limit air → Stands t (view (set_node c m)) limit air
   set_stands c x m was name there s = stands_same _ (λ side name. ap (option_map shown) (same (owner side name) name (cases_node (owner side name) x))) s
     where
       same : (y : NodeName) (q : PortName) → (y ≡ x) ⊎ (y ≡ x → ⊥) → view (set_node c m) y q ≡ put (view c) x (side_at m) y q
-      same y q (inl e) = ap (λ (y : NodeName). side_at (node_at (set_node c m) y) q) e ∙ ap (λ (n : Node). side_at n q) (node_set c x m name was there) ∙ sym (put_here (view c) x (side_at m) y q e)
+      same y q (inl e) = ap (λ (y : NodeName). side_at (node_at (set_node c m) y) q) e ∙ ap (λ (n : Node). side_at n q) (node_set c x m name was there)
+          ∙ sym (put_here (view c) x (side_at m) y q e)
       same y q (inr ne) = ap (λ (n : Node). side_at n q) (node_kept c x m name y ne) ∙ sym (put_other (view c) x (side_at m) y q ne)
 
 -- what is found in a list does not depend on an item that fails the test, nor on one behind what is found
 module _ (test : Node → Bool) where
-  find_hidden : (pre ns : List Node) (p : Node) → find test pre ≡ Some p → find test (pre ++ ns) ≡ Some p
+  pub find_hidden : (pre ns : List Node) (p : Node) → find test pre ≡ Some p → find test (pre ++ ns) ≡ Some p
   find_hidden [] ns p e = absurd (none-some p e)
   find_hidden (x ∷ xs) ns p e = elim (cases_Bool (test x)) [
     | inl passed ↦ cond-true (test x) (Some x) (find test (xs ++ ns)) passed ∙ sym (cond-true (test x) (Some x) (find test xs) passed) ∙ e
@@ -139,7 +144,14 @@ module _ (l : RlcLaws) where
 
   -- a PDU goes off the air
   pub off_holds : (c : Chain) (ticket : ℕ) → Holds c → Holds (without ticket c)
-  off_holds c ticket h = record { limit = h.limit; fresh = h.fresh; stands = stands_off l ticket h.stands; nodes = h.nodes; tickets = omega (arith, h.tickets, air_long c.air ticket) }
+  off_holds c ticket h = record {
+    limit = h.limit;
+    fresh = h.fresh;
+    stands = stands_off l ticket h.stands;
+    nodes = h.nodes;
+    tickets = omega
+        (arith, h.tickets, air_long c.air ticket);
+  }
 
   module _ (t : Contents) {limit : Limits} {air : List (Option Pdu)} where
     -- a node among others goes on
@@ -164,20 +176,25 @@ module _ (l : RlcLaws) where
             (subst (λ (x : Node). Stands t (put (view_in (pre ++ n ∷ ns)) n.name (side_at x)) limit air) (here n refl) (put_own (pre ++ n ∷ ns) n.name s)))
           where
             here : (x : Node) → x.name ≡ n.name → node_in (pre ++ x ∷ ns) n.name ≡ x
-            here x same = ap (λ (o : Option Node). unwrap_or o (no_node n.name)) (find_shown (λ (y : Node). is_node n.name y.name) pre ns x is (ap (is_node n.name) same ∙ node_refl n.name))
+            here x same = ap (λ (o : Option Node). unwrap_or o (no_node n.name))
+                (find_shown (λ (y : Node). is_node n.name y.name) pre ns x is (ap (is_node n.name) same ∙ node_refl n.name))
 
             is_put : (y : NodeName) (q : PortName) → (y ≡ n.name) ⊎ (y ≡ n.name → ⊥) → view_in (pre ++ m ∷ ns) y q ≡ put (view_in (pre ++ n ∷ ns)) n.name (side_at m) y q
-            is_put y q (inl e) = ap (λ (y : NodeName). view_in (pre ++ m ∷ ns) y q) e ∙ ap (λ (x : Node). side_at x q) (here m g.name) ∙ sym (put_here (view_in (pre ++ n ∷ ns)) n.name (side_at m) y q e)
+            is_put y q (inl e) = ap (λ (y : NodeName). view_in (pre ++ m ∷ ns) y q) e ∙ ap (λ (x : Node). side_at x q) (here m g.name)
+                ∙ sym (put_here (view_in (pre ++ n ∷ ns)) n.name (side_at m) y q e)
             is_put y q (inr ne) = ap (λ (x : Node). side_at x q) (sym (apart y ne)) ∙ sym (put_other (view_in (pre ++ n ∷ ns)) n.name (side_at m) y q ne)
 
     -- all nodes feed, one behind another
-    feeds_stand : (pre ns : List Node) (given : List Key) (ms : List Node) → AllByRecursion NodeFits ns → FeedsAll t ns given ms → Stands t (view_in (pre ++ ns)) limit air → Stands t (view_in (pre ++ ms)) limit air × AllByRecursion NodeFits ms
+    feeds_stand : (pre ns : List Node) (given : List Key) (ms : List Node) → AllByRecursion NodeFits ns → FeedsAll t ns given ms → Stands t (view_in (pre ++ ns)) limit air
+        → Stands t (view_in (pre ++ ms)) limit air × AllByRecursion NodeFits ms
     feeds_stand pre [] given ms fits f s = (subst (λ (ms : List Node). Stands t (view_in (pre ++ ms)) limit air) (sym f.1) s, subst (AllByRecursion NodeFits) (sym f.1) tt)
     feeds_stand pre (n ∷ ns) given ms fits f s =
         let g = feeds_goes l t n f.2 f.0 fits.0 f.4 in
         let first = among_goes pre ns n f.0 g s in
-        let rest = feeds_stand (pre ++ f.0 ∷ []) ns f.3 f.1 fits.1 f.5 (subst (λ (xs : List Node). Stands t (view_in xs) limit air) (sym (append_assoc pre (f.0 ∷ []) ns)) first) in (
-          subst (λ (ms : List Node). Stands t (view_in (pre ++ ms)) limit air) (sym f.7) (subst (λ (xs : List Node). Stands t (view_in xs) limit air) (append_assoc pre (f.0 ∷ []) f.1) rest.0),
+        let rest = feeds_stand (pre ++ f.0 ∷ []) ns f.3 f.1 fits.1 f.5
+        (subst (λ (xs : List Node). Stands t (view_in xs) limit air) (sym (append_assoc pre (f.0 ∷ []) ns)) first) in (
+          subst (λ (ms : List Node). Stands t (view_in (pre ++ ms)) limit air) (sym f.7)
+              (subst (λ (xs : List Node). Stands t (view_in xs) limit air) (append_assoc pre (f.0 ∷ []) f.1) rest.0),
           subst (AllByRecursion NodeFits) (sym f.7) (g.fits, rest.1),
         )
 

@@ -45,7 +45,8 @@ happens_most (expires_prohibit r x) = omega arith
 
 -- where a port moves, its other hop stays as it was
 module _ {old : Port} {event : Event} {new : Port} where
-  moves_within : (k : ℕ) (way : Way) → Moves old way event new → length (hop_of new way).pdus ≤ length (hop_of old way).pdus + k → (w : Way) → length (hop_of new w).pdus ≤ length (hop_of old w).pdus + k
+  moves_within : (k : ℕ) (way : Way) → Moves old way event new → length (hop_of new way).pdus ≤ length (hop_of old way).pdus + k → (w : Way)
+      → length (hop_of new w).pdus ≤ length (hop_of old w).pdus + k
   moves_within k Ul m le Ul = le
   moves_within k Dl m le Dl = le
   moves_within k Ul m le Dl = omega (arith, ap (λ (h : Hop). length h.pdus) m.other)

@@ -59,7 +59,8 @@ report_long r fmc map can is = elim is.ends [
 
 module _ (l : RlcLaws) (t : Contents) where
   -- a PDU is given to its first hop
-  gives_goes : (old : Node) (key : Key) (tag : Tag) (pdu : List ℕ) (new : Node) → NodeFits old → (0 < length pdu) × (length pdu ≤ 9003) → GivesPdu t old key tag pdu new → Goes old new
+  gives_goes : (old : Node) (key : Key) (tag : Tag) (pdu : List ℕ) (new : Node) → NodeFits old → (0 < length pdu) × (length pdu ≤ 9003) → GivesPdu t old key tag pdu new
+      → Goes old new
   gives_goes old key tag pdu new fits long g = subst (Goes old) (sym g.is) (goes_called old g.port g.side g.entity g.tx g.entity.rx fits g.its.here g.its.is_open mover)
     where
       sdu : List ℕ
@@ -77,7 +78,8 @@ module _ (l : RlcLaws) (t : Contents) where
   report_goes old i given new fits (dropped wanted can none is) = subst (Goes old) (sym is) (goes_incoming old (record i { wanted = false }) fits)
   report_goes old i given new fits (no_room wanted can room none same) = goes_nowhere old new fits same
   report_goes old i given new fits (gives_report wanted can room g one) =
-      let first = gives_goes old _ _ (pdcp_bytes i.receiver.size (Report g.fmc g.map)) g.mid fits (omega arith, omega (arith, report_long i.receiver g.fmc g.map can g.its)) g.gives in
+      let first = gives_goes old _ _ (pdcp_bytes i.receiver.size (Report g.fmc g.map)) g.mid fits
+      (omega arith, omega (arith, report_long i.receiver g.fmc g.map can g.its)) g.gives in
       goes_on first (subst (Goes g.mid) (sym g.is) (goes_incoming g.mid (record i { wanted = false; reported = i.receiver.handed }) first.fits))
 
   reports_go : (old : Node) (keys given : List Key) (new : Node) → NodeFits old → FeedsReports t old keys given new → Goes old new
@@ -101,4 +103,5 @@ module _ (l : RlcLaws) (t : Contents) where
 
   -- a node feeds
   pub feeds_goes : (old : Node) (given : List Key) (new : Node) → NodeFits old → Feeds t old given new → Goes old new
-  feeds_goes old given new fits f = let first = reports_go old (map in_key old.incoming) given f.mid fits f.reports in goes_on first (each_goes f.mid (map out_key f.mid.outgoing) new first.fits f.data_pdus)
+  feeds_goes old given new fits f = let first = reports_go old (map in_key old.incoming) given f.mid fits f.reports in goes_on first
+      (each_goes f.mid (map out_key f.mid.outgoing) new first.fits f.data_pdus)

@@ -35,7 +35,7 @@ use Rattle.node_model.specs.Hearing.{entity_fault, side_refusal, hear_refusal, P
 use Rattle.chain_model.specs.State.{Chain, node_at, set_node}
 use Rattle.chain_model.specs.Lines.{is_handed_over, Comes, Delivers}
 use Rattle.chain_law.specs.Entities.{IsSdu, IsHeardWell}
-use Rattle.chain_law.proofs.Finding.{each_replaced}
+use Rattle.node_model.proofs.Finding.{each_replaced}
 use Rattle.chain_law.proofs.Counting.{is_grant}
 use Rattle.chain_law.specs.Foundations.{RlcLaws}
 use Rattle.chain_law.proofs.Stands.{View, Limits, Stands, put, put_here, window, put_changes, node_stands, stands_called, all_seen, no_rest}
@@ -43,14 +43,16 @@ use Rattle.chain_law.proofs.Nodes.{NodeFits, SenderFits, outgoing_fits, side_fit
 use Rattle.chain_law.proofs.Chains.{Holds, view, node_fits, node_name, node_there, put_own, set_stands, goes_set}
 
 -- what hearing a PDU leaves is a move of one hop, and no data PDU is sent
-leaves_moved : (port : Port) (way : Way) (status : Bool) (number : ℕ) (bytes : List ℕ) (answer : HopHeard) (tx : Tx) (rx : Rx) → HearLeaves port way status number bytes answer tx rx
+leaves_moved : (port : Port) (way : Way) (status : Bool) (number : ℕ) (bytes : List ℕ) (answer : HopHeard) (tx : Tx) (rx : Rx)
+    → HearLeaves port way status number bytes answer tx rx
     → (w : Way) × (event : Event) × (behind : Port) × (is_grant event ≡ false) × MovesSide port (hearer_of way) w event tx rx behind
 leaves_moved port way false number bytes (Amd answer) tx rx y = (way, Deliver y.heard, y.behind, refl, y.moves)
 leaves_moved port way true number bytes (Status answer) tx rx y = (flip way, DeliverStatus y.heard, y.behind, refl, y.moves)
 leaves_moved port way status number bytes answer tx rx y = absurd y
 
 -- and it is answered as it should be
-pub leaves_well : (l : RlcLaws) (port : Port) (way : Way) (status : Bool) (number : ℕ) (bytes : List ℕ) (answer : HopHeard) (tx : Tx) (rx : Rx) → ReachesPort port → HearLeaves port way status number bytes answer tx rx → IsHeardWell number answer
+pub leaves_well : (l : RlcLaws) (port : Port) (way : Way) (status : Bool) (number : ℕ) (bytes : List ℕ) (answer : HopHeard) (tx : Tx) (rx : Rx) → ReachesPort port
+    → HearLeaves port way status number bytes answer tx rx → IsHeardWell number answer
 leaves_well l port way false number bytes (Amd Stored) tx rx r y = tt
 leaves_well l port way false number bytes (Amd Repeat) tx rx r y = tt
 leaves_well l port way false number bytes (Amd Outside) tx rx r y = y.as_given
@@ -64,7 +66,8 @@ leaves_well l port way true number bytes (Status (Beyond ack sent)) tx rx r y = 
 leaves_well l port way status number bytes answer tx rx r y = absurd y
 
 -- what is kept once COUNTs are confirmed was kept
-still_there : (test : ℕ → Bool) (count : ℕ) (kept : List (Option (List ℕ))) (n : ℕ) (sdu : List ℕ) → get_or (still_kept test count kept) n None ≡ Some sdu → get_or kept n None ≡ Some sdu
+still_there : (test : ℕ → Bool) (count : ℕ) (kept : List (Option (List ℕ))) (n : ℕ) (sdu : List ℕ) → get_or (still_kept test count kept) n None ≡ Some sdu
+    → get_or kept n None ≡ Some sdu
 still_there test count [] n sdu e = e
 still_there test count (x ∷ xs) zero sdu e = by (test count) e
   where
@@ -113,7 +116,8 @@ confirm_goes n (Uu chan) tags fits = goes_nowhere n n fits refl
 module _ (t : Contents) (old : Node) (at : Side) (side : PortSide) (fits : NodeFits old) (port : PortName) (here : side_at old port ≡ Some side) (number : ℕ) where
   passes_go : (sdu : List ℕ) (target : Result Target Discard) (answer : NodeHeard) (new : Node) → IsSdu sdu → Passes old side sdu target answer new → Goes old new
   passes_go sdu (Ok (ToPdcp key pdu)) answer new is p = pdcp_goes old key pdu answer new fits p
-  passes_go sdu (Ok (Onward route)) answer new is p = subst (Goes old) (sym p.1) (goes_changed old port side (record side { slot = Some (record { from = side.name; route = route; sdu = sdu }) }) fits here refl refl
+  passes_go sdu (Ok (Onward route)) answer new is p = subst (Goes old) (sym p.1)
+      (goes_changed old port side (record side { slot = Some (record { from = side.name; route = route; sdu = sdu }) }) fits here refl refl
       (record { slot = λ parcel e. subst (λ (x : _). IsSdu x.sdu) (same_Some _ parcel e) is; queue = (side_fits old port side fits here).queue }))
   passes_go sdu (Err discard) answer new is p = goes_nowhere old new fits p.1
 
@@ -155,7 +159,8 @@ confirm_name n (Direct remote drb) tags = tags_name n tags
 confirm_name n (Pc5 remote chan) tags = refl
 confirm_name n (Uu chan) tags = refl
 
-follows_name : (t : Contents) (old : Node) (at : Side) (side : PortSide) (hop : HopHeard) (answer : NodeHeard) (new : Node) → Follows t old at side hop answer new → new.name ≡ old.name
+follows_name : (t : Contents) (old : Node) (at : Side) (side : PortSide) (hop : HopHeard) (answer : NodeHeard) (new : Node) → Follows t old at side hop answer new
+    → new.name ≡ old.name
 follows_name t old at side (Amd (Complete own sdu)) answer new f = passes_name old side sdu f.0 answer new f.2
 follows_name t old at side (Status (Acked tags marks)) answer new f = ap (λ (n : Node). n.name) f.1 ∙ confirm_name old side.name tags
 follows_name t old at side hop answer new f = ap (λ (n : Node). n.name) f.1
@@ -168,7 +173,8 @@ hears_name t old at pdu answer new = by (hear_refusal pdu (side_at old pdu.port)
     by None h = follows_name t (set_entity old h.side h.behind) at (record h.side { entity = Some h.behind }) h.hop answer new h.follows
 
 -- a PDU that isn't refused comes to a side that is open, and the air hands it over
-no_fault : (pdu : Pdu) (found : Option PortSide) (side : PortSide) (entity : Entity) → hear_refusal pdu found ≡ None → found ≡ Some side → side.entity ≡ Some entity → side_fault pdu (Some entity.epoch) entity.tx entity.rx ≡ None
+no_fault : (pdu : Pdu) (found : Option PortSide) (side : PortSide) (entity : Entity) → hear_refusal pdu found ≡ None → found ≡ Some side → side.entity ≡ Some entity
+    → side_fault pdu (Some entity.epoch) entity.tx entity.rx ≡ None
 no_fault pdu found side entity none here is_open = ap (entity_fault pdu) (sym is_open) ∙ by (entity_fault pdu side.entity) (ap (hear_refusal pdu) (sym here) ∙ none)
   where
     by : (fault : Option AirFault) → side_refusal pdu side fault ≡ None → fault ≡ None
@@ -181,16 +187,21 @@ pub record HearsOn (old : Node) (port : PortName) (new : Node) : Type 0 where
   pub name : new.name ≡ old.name
   pub there : (new ≡ old) ⊎ ((s : PortSide) × (side_at old port ≡ Some s))
 
-module _ (l : RlcLaws) (t : Contents) {limit : Limits} {air : List (Option Pdu)} (v : View) (sees : PortName → Bool) (rest : PortName → Option PortSide) (ticket : ℕ) (pdu : Pdu) (on : on_air air ticket ≡ Some pdu) (seen : sees pdu.port ≡ true) where
-  side_hears : (old new : Node) (answer : NodeHeard) → NodeFits old → hear_refusal pdu (side_at old pdu.port) ≡ None → HearsSide t old (hearer_of pdu.way) pdu.port pdu.bytes answer new
-      → Stands t (put v (owner (hearer_of pdu.way) pdu.port) (window sees rest old)) limit air → Stands t (put v (owner (hearer_of pdu.way) pdu.port) (window sees rest new)) limit air × HearsOn old pdu.port new
-  side_hears old new answer fits none h s = (node_stands l v (owner at pdu.port) sees rest goes.moves moved, record { fits = goes.fits; name = goes.name; there = inr (h.side, h.its.here) })
+module _ (l : RlcLaws) (t : Contents) {limit : Limits} {air : List (Option Pdu)} (v : View) (sees : PortName → Bool) (rest : PortName → Option PortSide) (ticket : ℕ) (pdu : Pdu)
+    (on : on_air air ticket ≡ Some pdu) (seen : sees pdu.port ≡ true) where
+  side_hears : (old new : Node) (answer : NodeHeard) → NodeFits old → hear_refusal pdu (side_at old pdu.port) ≡ None
+      → HearsSide t old (hearer_of pdu.way) pdu.port pdu.bytes answer new
+      → Stands t (put v (owner (hearer_of pdu.way) pdu.port) (window sees rest old)) limit air
+      → Stands t (put v (owner (hearer_of pdu.way) pdu.port) (window sees rest new)) limit air × HearsOn old pdu.port new
+  side_hears old new answer fits none h s =
+      (node_stands l v (owner at pdu.port) sees rest goes.moves moved, record { fits = goes.fits; name = goes.name; there = inr (h.side, h.its.here) })
     where
       at : Side
       at = hearer_of pdu.way
 
       its : put v (owner at pdu.port) (window sees rest old) (owner at pdu.port) pdu.port ≡ Some h.side
-      its = put_here v (owner at pdu.port) (window sees rest old) (owner at pdu.port) pdu.port refl ∙ cond-true (sees pdu.port) (side_at old pdu.port) (rest pdu.port) seen ∙ h.its.here
+      its = put_here v (owner at pdu.port) (window sees rest old) (owner at pdu.port) pdu.port refl ∙ cond-true (sees pdu.port) (side_at old pdu.port) (rest pdu.port) seen
+          ∙ h.its.here
 
       heard : (port : Port) × (s.ports pdu.port h.entity.epoch ≡ Some port) × HearLeaves port pdu.way pdu.status pdu.number pdu.bytes h.hop h.tx h.rx
       heard = l.side_hears _ s.ports s.epochs _ air s.fits s.sides ticket pdu on h.entity (ap (option_and_then entity_of) its ∙ h.its.is_open)
@@ -209,24 +220,32 @@ module _ (l : RlcLaws) (t : Contents) {limit : Limits} {air : List (Option Pdu)}
       m = leaves_moved heard.0 pdu.way pdu.status pdu.number pdu.bytes h.hop h.tx h.rx heard.2
 
       moved : Stands t (put v (owner at pdu.port) (window sees rest mid)) limit air
-      moved = stands_called l s at pdu.port h.side now h.entity h.tx h.rx its h.its.is_open refl (ap (λ (e : Entity). Some e) h.its_entity) (put v (owner at pdu.port) (window sees rest mid))
+      moved = stands_called l s at pdu.port h.side now h.entity h.tx h.rx its h.its.is_open refl (ap (λ (e : Entity). Some e) h.its_entity)
+          (put v (owner at pdu.port) (window sees rest mid))
           (put_changes sees rest old mid v (owner at pdu.port) at pdu.port now refl seen (side_set old pdu.port h.side now h.its.here refl)) heard.0 heard.1 m.0 m.1 m.2 m.4 m.3
 
       goes : Goes mid new
-      goes = follows_go t mid at now (fits_side old now fits (called_fits old pdu.port h.side (Some h.behind) fits h.its.here)) pdu.port (side_set old pdu.port h.side now h.its.here refl).here pdu.number h.hop answer new well h.follows
+      goes = follows_go t mid at now (fits_side old now fits (called_fits old pdu.port h.side (Some h.behind) fits h.its.here)) pdu.port
+          (side_set old pdu.port h.side now h.its.here refl).here pdu.number h.hop answer new well h.follows
 
   -- a node hears a PDU
   pub hears_stand : (old new : Node) (answer : NodeHeard) → NodeFits old → HearsPdu t old (hearer_of pdu.way) pdu answer new
-      → Stands t (put v (owner (hearer_of pdu.way) pdu.port) (window sees rest old)) limit air → Stands t (put v (owner (hearer_of pdu.way) pdu.port) (window sees rest new)) limit air × HearsOn old pdu.port new
+      → Stands t (put v (owner (hearer_of pdu.way) pdu.port) (window sees rest old)) limit air
+      → Stands t (put v (owner (hearer_of pdu.way) pdu.port) (window sees rest new)) limit air × HearsOn old pdu.port new
   hears_stand old new answer fits h s = by (hear_refusal pdu (side_at old pdu.port)) refl h
     where
       by : (refusal : Option NodeHeard) → hear_refusal pdu (side_at old pdu.port) ≡ refusal → HearsUnless refusal t old (hearer_of pdu.way) pdu answer new
           → Stands t (put v (owner (hearer_of pdu.way) pdu.port) (window sees rest new)) limit air × HearsOn old pdu.port new
-      by (Some refusal) is x = (subst (λ (n : Node). Stands t (put v (owner (hearer_of pdu.way) pdu.port) (window sees rest n)) limit air) (sym x.1) s, record { fits = subst NodeFits (sym x.1) fits; name = ap (λ (n : Node). n.name) x.1; there = inl x.1 })
+      by (Some refusal) is x = (
+        subst (λ (n : Node). Stands t (put v (owner (hearer_of pdu.way) pdu.port) (window sees rest n)) limit air)
+            (sym x.1) s,
+        record { fits = subst NodeFits (sym x.1) fits; name = ap (λ (n : Node). n.name) x.1; there = inl x.1 },
+      )
       by None is x = side_hears old new answer fits is x s
 
 -- a PDU comes to its node
-pub comes_hold : (l : RlcLaws) (old : Chain) (ticket : ℕ) (pdu : Pdu) (events : List Told) (reply : Reply) (new : Chain) (behind : Chain → Chain) → ((c : Chain) → Holds c → Holds (behind c)) → on_air old.air ticket ≡ Some pdu
+pub comes_hold : (l : RlcLaws) (old : Chain) (ticket : ℕ) (pdu : Pdu) (events : List Told) (reply : Reply) (new : Chain) (behind : Chain → Chain)
+    → ((c : Chain) → Holds c → Holds (behind c)) → on_air old.air ticket ≡ Some pdu
     → Holds old → Comes old pdu events reply new behind → Holds new
 comes_hold l old ticket pdu events reply new behind keeps on h c = subst Holds (sym c.is) (by (is_handed_over c.answer))
   where
@@ -234,12 +253,14 @@ comes_hold l old ticket pdu events reply new behind keeps on h c = subst Holds (
     n = node_at old (owner (hearer_of pdu.way) pdu.port)
 
     heard : Stands old.tables (put (view old) (owner (hearer_of pdu.way) pdu.port) (side_at c.node)) h.limit old.air × HearsOn n pdu.port c.node
-    heard = hears_stand l old.tables (view old) all_seen no_rest ticket pdu on refl n c.node c.answer (node_fits old h (owner (hearer_of pdu.way) pdu.port)) c.hears (put_own old.nodes (owner (hearer_of pdu.way) pdu.port) h.stands)
+    heard = hears_stand l old.tables (view old) all_seen no_rest ticket pdu on refl n c.node c.answer (node_fits old h (owner (hearer_of pdu.way) pdu.port)) c.hears
+        (put_own old.nodes (owner (hearer_of pdu.way) pdu.port) h.stands)
 
     set : (c.node ≡ n) ⊎ ((s : PortSide) × (side_at n pdu.port ≡ Some s)) → Holds (set_node old c.node)
     set (inl same) = goes_set l old (owner (hearer_of pdu.way) pdu.port) c.node h (goes_nowhere n c.node (node_fits old h (owner (hearer_of pdu.way) pdu.port)) same)
     set (inr there) = record {
-      stands = set_stands old (owner (hearer_of pdu.way) pdu.port) c.node n (heard.1.name ∙ node_name old (owner (hearer_of pdu.way) pdu.port)) (node_there old (owner (hearer_of pdu.way) pdu.port) pdu.port there.0 there.1) heard.0;
+      stands = set_stands old (owner (hearer_of pdu.way) pdu.port) c.node n (heard.1.name ∙ node_name old (owner (hearer_of pdu.way) pdu.port))
+          (node_there old (owner (hearer_of pdu.way) pdu.port) pdu.port there.0 there.1) heard.0;
       nodes = each_replaced NodeFits _ c.node heard.1.fits old.nodes h.nodes;
       limit = h.limit;
       fresh = h.fresh;
@@ -250,7 +271,8 @@ comes_hold l old ticket pdu events reply new behind keeps on h c = subst Holds (
     by true = keeps (set_node old c.node) (set heard.1.there)
     by false = h
 
-pub delivers_hold : (l : RlcLaws) (old : Chain) (ticket : ℕ) (events : List Told) (reply : Reply) (new : Chain) (behind : Chain → Chain) → ((c : Chain) → Holds c → Holds (behind c)) → Holds old → Delivers old (on_air old.air ticket) events reply new behind → Holds new
+pub delivers_hold : (l : RlcLaws) (old : Chain) (ticket : ℕ) (events : List Told) (reply : Reply) (new : Chain) (behind : Chain → Chain)
+    → ((c : Chain) → Holds c → Holds (behind c)) → Holds old → Delivers old (on_air old.air ticket) events reply new behind → Holds new
 delivers_hold l old ticket events reply new behind keeps h = by (on_air old.air ticket) refl
   where
     by : (pdu : Option Pdu) → on_air old.air ticket ≡ pdu → Delivers old pdu events reply new behind → Holds new

@@ -15,12 +15,12 @@ use Rattle.node_model.specs.State.{Node, side_at, set_side}
 use Rattle.chain_model.specs.State.{Chain, node_at, set_node}
 use Rattle.chain_law.specs.Entities.{RlcFits, IsSdu, port_settings}
 use Rattle.chain_law.specs.Foundations.{RlcLaws}
-use Rattle.chain_law.specs.Laws.{EntitiesAreThoseOfPorts, NumbersStayWithinTickets, HearsWhatWasGiven, ParcelsAreSdus, KeptAreBodies, OneSideChanges}
-use Rattle.chain_law.proofs.Names.{cases_node}
+use Rattle.chain_law.specs.Laws.{ComesUp, behind, goes_on, unfed, EntitiesAreThoseOfPorts, NumbersStayWithinTickets, HearsWhatWasGiven, ParcelsAreSdus, KeptAreBodies, OneSideChanges}
+use Rattle.node_model.proofs.Names.{cases_node}
 use Rattle.chain_law.proofs.Chains.{Holds, node_fits, node_name, node_there, node_set, node_kept}
 use Rattle.chain_law.proofs.Hearing.{leaves_well}
 use Rattle.chain_law.proofs.Nodes.{ParcelFits, side_fits, side_set, outgoing_fits}
-use Rattle.chain_law.proofs.Runs.{runs_hold}
+use Rattle.chain_law.proofs.Runs.{does_hold, step_holds, runs_hold}
 
 rlc_fits : (c : Chain) → Holds c → RlcFits c
 rlc_fits c h = record {
@@ -33,11 +33,17 @@ rlc_fits c h = record {
   fresh = λ remote plan is side name of. omega (arith, h.stands.within side name, h.fresh remote plan is side name of);
 }
 
+-- what holds of each chain that comes up
+comes_hold : (l : RlcLaws) {c : Chain} → ComesUp c → Holds c
+comes_hold l {c} (behind h stage run) = (runs_hold l h stage c run).1
+comes_hold l {c} (goes_on {old = old} line events reply up step) = step_holds l old line events reply c (comes_hold l up) step
+comes_hold l {c} (unfed {old = old} line events reply up does) = does_hold l old line events reply c (comes_hold l up) does
+
 pub entities_are_those_of_ports : RlcLaws → EntitiesAreThoseOfPorts
-entities_are_those_of_ports l h stage c run = rlc_fits c (runs_hold l h stage c run).1
+entities_are_those_of_ports l c up = rlc_fits c (comes_hold l up)
 
 pub numbers_stay_within_tickets : RlcLaws → NumbersStayWithinTickets
-numbers_stay_within_tickets l h stage c run side name e is = record {
+numbers_stay_within_tickets l c up side name e is = record {
   acked = omega (arith, sends.0, few (way_from side), ap tx_next_ack its.2.its_tx);
   given = omega (arith, sends.1, few (way_from side), ap tx_next its.2.its_tx, ap (λ (s : SnSize). window s) (ap (λ (t : Tx). t.size) its.2.its_tx));
   heard = omega (arith, hears.1, hears.2, few (flip (way_from side)), ap rx_next its.2.its_rx, same_window);
@@ -45,7 +51,7 @@ numbers_stay_within_tickets l h stage c run side name e is = record {
 }
   where
     holds : Holds c
-    holds = (runs_hold l h stage c run).1
+    holds = comes_hold l up
 
     its : (port : Port) × (holds.stands.ports name e.epoch ≡ Some port) × Rattle.rlc_law.specs.Ports.IsSide port side e.tx e.rx
     its = holds.stands.sides.open_port side name e is
@@ -53,7 +59,8 @@ numbers_stay_within_tickets l h stage c run side name e is = record {
     few : (way : _) → length (hop_of its.0 way).pdus ≤ length c.air
     few way = holds.stands.few name e.epoch its.0 way its.1
 
-    sends : (tx_next_ack (hop_of its.0 (way_from side)).tx ≤ length (hop_of its.0 (way_from side)).pdus) × (tx_next (hop_of its.0 (way_from side)).tx ≤ length (hop_of its.0 (way_from side)).pdus + window (hop_of its.0 (way_from side)).tx.size)
+    sends : (tx_next_ack (hop_of its.0 (way_from side)).tx ≤ length (hop_of its.0 (way_from side)).pdus)
+        × (tx_next (hop_of its.0 (way_from side)).tx ≤ length (hop_of its.0 (way_from side)).pdus + window (hop_of its.0 (way_from side)).tx.size)
         × (rx_next (hop_of its.0 (way_from side)).rx ≤ tx_next (hop_of its.0 (way_from side)).tx)
     sends = l.bounded (hop_of its.0 (way_from side)) (holds.stands.fits.reaches name e.epoch its.0 its.1 (way_from side))
 
@@ -80,19 +87,20 @@ at_place (x ∷ xs) zero parcel all e = subst ParcelFits (same_Some x parcel e) 
 at_place (x ∷ xs) (suc place) parcel all e = at_place xs place parcel all.1 e
 
 pub parcels_are_sdus : RlcLaws → ParcelsAreSdus
-parcels_are_sdus l h stage c run node port s is =
-    let fits = side_fits (node_at c node) port s (node_fits c (runs_hold l h stage c run).1 node) is in
+parcels_are_sdus l c up node port s is =
+    let fits = side_fits (node_at c node) port s (node_fits c (comes_hold l up) node) is in
     (fits.slot, λ place parcel e. at_place s.queue place parcel fits.queue e)
 
 pub kept_are_bodies : RlcLaws → KeptAreBodies
-kept_are_bodies l h stage c run key = outgoing_fits (node_at c (source key)) key (node_fits c (runs_hold l h stage c run).1 (source key))
+kept_are_bodies l c up key = outgoing_fits (node_at c (source key)) key (node_fits c (comes_hold l up) (source key))
 
 pub one_side_changes : OneSideChanges
 one_side_changes c node port was now there same = record {
   here = ap (λ (n : Node). side_at n port) is_set ∙ sc.here;
   others = λ x q ne. elim (cases_node x node) [
     | inr other ↦ ap (λ (n : Node). side_at n q) (node_kept c node n name x other)
-    | inl this ↦ ap (λ (x : NodeName). side_at (node_at (set_node c n) x) q) this ∙ ap (λ (n : Node). side_at n q) is_set ∙ sc.others q (λ e. ne (this, e)) ∙ ap (λ (x : NodeName). side_at (node_at c x) q) (sym this)
+    | inl this ↦ ap (λ (x : NodeName). side_at (node_at (set_node c n) x) q) this ∙ ap (λ (n : Node). side_at n q) is_set ∙ sc.others q (λ e. ne (this, e))
+        ∙ ap (λ (x : NodeName). side_at (node_at c x) q) (sym this)
   ];
 }
   where

@@ -1,5 +1,3 @@
-pub mod Names
-pub mod Finding
 pub mod Counting
 pub mod Stands
 pub mod Nodes
@@ -16,3 +14,4 @@ pub mod Bursting
 pub mod Bursts
 pub mod Runs
 pub mod Laws
+pub mod Calls

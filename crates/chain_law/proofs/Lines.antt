@@ -47,8 +47,8 @@ use Rattle.chain_model.specs.Plans.{next_plan, has_applied}
 use Rattle.chain_model.specs.Told.{kind_of}
 use Rattle.chain_model.specs.Lines.{Unless, Submits, grant_refusal, Granted, Sends, Loses, Stages, Expires, PushesAt, PullsAt, queue_capacity, Wants, Plans}
 use Rattle.chain_law.specs.Entities.{next_epoch}
-use Rattle.chain_law.proofs.Names.{remote_is, remote_refl, remote_apart, cases_remote}
-use Rattle.chain_law.proofs.Finding.{find_passes, find_hit, find_miss, each_replaced, each_append}
+use Rattle.node_model.proofs.Names.{remote_is, remote_refl, remote_apart, cases_remote}
+use Rattle.node_model.proofs.Finding.{find_passes, find_hit, find_miss, each_replaced, each_append}
 use Rattle.chain_law.proofs.Counting.{place_more, moves_most, is_grant}
 use Rattle.chain_law.specs.Foundations.{RlcLaws}
 use Rattle.chain_law.proofs.Stands.{Stands, Moved, stays, moves, put, put_here, put_changes, stands_sent, all_seen, no_rest}
@@ -56,7 +56,8 @@ use Rattle.chain_law.proofs.Nodes.{NodeFits, SideFits, SenderFits, ParcelFits, o
 use Rattle.chain_law.proofs.Chains.{Holds, view, node_fits, node_name, node_there, put_own, set_stands, goes_set, off_holds}
 
 -- where there is a refusal nothing changes
-pub unless_holds : (refusal : Option Reply) (old : Chain) (events : List Event) (reply : Reply) (new : Chain) (done : Type 0) → Holds old → (refusal ≡ None → done → Holds new) → Unless refusal old events reply new done → Holds new
+pub unless_holds : (refusal : Option Reply) (old : Chain) (events : List Event) (reply : Reply) (new : Chain) (done : Type 0) → Holds old → (refusal ≡ None → done → Holds new)
+    → Unless refusal old events reply new done → Holds new
 unless_holds (Some r) old events reply new done h goes u = subst Holds (sym u.2) h
 unless_holds None old events reply new done h goes u = goes refl u
 
@@ -109,7 +110,8 @@ expiry_quiet Reasm = refl
 expiry_quiet Prohibit = refl
 
 module _ (l : RlcLaws) where
-  pub submits_hold : (old : Chain) (key : Key) (sdu : List ℕ) (events : List Event) (reply : Reply) (new : Chain) → Holds old → Submits (submit_fault (sender_at old key) sdu) old key sdu events reply new → Holds new
+  pub submits_hold : (old : Chain) (key : Key) (sdu : List ℕ) (events : List Event) (reply : Reply) (new : Chain) → Holds old
+      → Submits (submit_fault (sender_at old key) sdu) old key sdu events reply new → Holds new
   submits_hold old key sdu events reply new h = go (submit_fault (sender_at old key) sdu) refl
     where
       go : (fault : Option SubmitFault) → submit_fault (sender_at old key) sdu ≡ fault → Submits fault old key sdu events reply new → Holds new
@@ -118,7 +120,8 @@ module _ (l : RlcLaws) where
           (goes_outgoing (node_at old (source key)) (record (outgoing (node_at old (source key)) key) { sender = accepts (sender_at old key) sdu }) (node_fits old h (source key))
           (accepted_fits (sender_at old key) sdu (outgoing_fits (node_at old (source key)) key (node_fits old h (source key))) (no_fault (sender_at old key) sdu is))))
 
-  pub granted_holds : (old : Chain) (port : PortName) (way : Way) (octets : ℕ) (events : List Event) (reply : Reply) (new : Chain) → Holds old → grant_refusal old port way ≡ None → Granted old port way octets events reply new → Holds new
+  pub granted_holds : (old : Chain) (port : PortName) (way : Way) (octets : ℕ) (events : List Event) (reply : Reply) (new : Chain) → Holds old
+      → grant_refusal old port way ≡ None → Granted old port way octets events reply new → Holds new
   granted_holds old port way octets events reply new h none g = by g.answer (sender_sends g.answer g.grants.grants) g.sends
     where
       n : Node
@@ -142,27 +145,37 @@ module _ (l : RlcLaws) where
       its : (p : Port) × (s.ports port entity.epoch ≡ Some p) × IsSide p (sender_of way) entity.tx entity.rx
       its = s.sides.open_port (sender_of way) port entity (ap (option_and_then entity_of) there ∙ g.grants.its.is_open)
 
-      sender_sends : (answer : HopGrant) → Rattle.rlc_model.specs.Hop.GrantsHop entity.tx entity.rx octets answer g.grants.tx g.grants.rx → GrantLeaves its.0 (sender_of way) octets answer g.grants.tx g.grants.rx
+      sender_sends : (answer : HopGrant) → Rattle.rlc_model.specs.Hop.GrantsHop entity.tx entity.rx octets answer g.grants.tx g.grants.rx
+          → GrantLeaves its.0 (sender_of way) octets answer g.grants.tx g.grants.rx
       sender_sends answer gr = l.grant_moves its.0 (sender_of way) entity.tx entity.rx its.2 octets answer g.grants.tx g.grants.rx gr
 
       by : (answer : HopGrant) → GrantLeaves its.0 (sender_of way) octets answer g.grants.tx g.grants.rx → Sends old g.node port way g.epoch answer reply new → Holds new
       by (grant.Sent status number bytes) made sent = subst Holds (sym sent.1) (record {
-        stands = subst (λ (epoch : ℕ). Stands old.tables (view (set_node old g.node)) h.limit (old.air ++ Some (sent_from port (sender_of way) epoch status number bytes) ∷ [])) (sym g.grants.its_epoch)
-            (subst (λ (m : Node). Stands old.tables (view (set_node old m)) h.limit (old.air ++ Some (sent_from port (sender_of way) entity.epoch status number bytes) ∷ [])) (sym g.grants.is)
-            (set_stands old (owner (sender_of way) port) behind n (node_name old (owner (sender_of way) port)) (node_there old (owner (sender_of way) port) port side g.grants.its.here) on_air));
+        stands = subst (λ (epoch : ℕ). Stands old.tables (view (set_node old g.node)) h.limit (old.air ++ Some (sent_from port (sender_of way) epoch status number bytes) ∷ []))
+            (sym g.grants.its_epoch)
+            (subst (λ (m : Node). Stands old.tables (view (set_node old m)) h.limit (old.air ++ Some (sent_from port (sender_of way) entity.epoch status number bytes) ∷ []))
+            (sym g.grants.is)
+            (set_stands old (owner (sender_of way) port) behind n (node_name old (owner (sender_of way) port))
+            (node_there old (owner (sender_of way) port) port side g.grants.its.here) on_air));
         limit = h.limit;
         fresh = h.fresh;
-        nodes = each_replaced NodeFits _ g.node (subst NodeFits (sym g.grants.is) (fits_side n now (node_fits old h (owner (sender_of way) port)) (called_fits n port side _ (node_fits old h (owner (sender_of way) port)) g.grants.its.here))) old.nodes h.nodes;
+        nodes = each_replaced NodeFits _ g.node
+            (subst NodeFits (sym g.grants.is)
+            (fits_side n now (node_fits old h (owner (sender_of way) port))
+            (called_fits n port side _ (node_fits old h (owner (sender_of way) port)) g.grants.its.here))) old.nodes h.nodes;
         tickets = omega (arith, ticket_left old port way none, length_push old.air (Some (sent_from port (sender_of way) g.epoch status number bytes)));
       })
         where
           behind : Node
           behind = Rattle.node_model.specs.State.set_side n now
 
-          on_air : Stands old.tables (put (view old) (owner (sender_of way) port) (side_at behind)) h.limit (old.air ++ Some (sent_from port (sender_of way) entity.epoch status number bytes) ∷ [])
-          on_air = stands_sent l s (sender_of way) port side now entity g.grants.tx g.grants.rx there g.grants.its.is_open refl refl (put (view old) (owner (sender_of way) port) (side_at behind))
+          on_air : Stands old.tables (put (view old) (owner (sender_of way) port) (side_at behind)) h.limit
+              (old.air ++ Some (sent_from port (sender_of way) entity.epoch status number bytes) ∷ [])
+          on_air = stands_sent l s (sender_of way) port side now entity g.grants.tx g.grants.rx there g.grants.its.is_open refl refl
+              (put (view old) (owner (sender_of way) port) (side_at behind))
               (put_changes all_seen no_rest n behind (view old) (owner (sender_of way) port) (sender_of way) port now refl refl (side_set n port side now g.grants.its.here refl))
-              its.0 its.1 (about status (way_from (sender_of way))) (granting status octets) made.behind made.moves (moves_most (about status (way_from (sender_of way))) made.moves.moves) status number bytes made.made
+              its.0 its.1 (about status (way_from (sender_of way))) (granting status octets) made.behind made.moves
+              (moves_most (about status (way_from (sender_of way))) made.moves.moves) status number bytes made.made
       by grant.Idle made sent = subst Holds (sym sent.1) h
       by (grant.Small need) made sent = subst Holds (sym sent.1) h
 
@@ -185,14 +198,17 @@ module _ (l : RlcLaws) where
       mover : (at : Side) (p : Port) → IsSide p at x.entity.tx x.entity.rx → Moved p at x.tx x.rx
       mover at p is = by at p expired (l.expire_moves p at x.entity.tx x.entity.rx is timer expired x.tx x.rx x.expires)
 
-  pub expires_hold : (old : Chain) (port : PortName) (at : Side) (timer : Timer) (events : List Event) (reply : Reply) (new : Chain) → Holds old → Expires old port at timer events reply new → Holds new
-  expires_hold old port at timer events reply new h x = subst Holds (sym x.is) (goes_set l old (owner at port) x.node h (expires_goes (node_at old (owner at port)) port timer x.expired x.node (node_fits old h (owner at port)) x.expires))
+  pub expires_hold : (old : Chain) (port : PortName) (at : Side) (timer : Timer) (events : List Event) (reply : Reply) (new : Chain) → Holds old
+      → Expires old port at timer events reply new → Holds new
+  expires_hold old port at timer events reply new h x = subst Holds (sym x.is)
+      (goes_set l old (owner at port) x.node h (expires_goes (node_at old (owner at port)) port timer x.expired x.node (node_fits old h (owner at port)) x.expires))
 
   -- an SDU goes from a slot to a queue
   pushes_go : (old : Node) (port egress : PortName) (new : Node) → NodeFits old → Pushes old port egress new → Goes old new
   pushes_go old port egress new fits p =
       let was = side_fits old port p.from fits p.here in
-      let first : Goes old p.mid = subst (Goes old) (sym p.empties) (goes_changed old port p.from (record p.from { slot = None }) fits p.here refl refl (record { slot = λ parcel e. absurd (none-some parcel e); queue = was.queue })) in
+      let first : Goes old p.mid = subst (Goes old) (sym p.empties)
+      (goes_changed old port p.from (record p.from { slot = None }) fits p.here refl refl (record { slot = λ parcel e. absurd (none-some parcel e); queue = was.queue })) in
       let to = side_fits p.mid egress p.to first.fits p.there in
       goes_on first (subst (Goes p.mid) (sym p.is) (goes_changed p.mid egress p.to (record p.to { queue = p.to.queue ++ p.parcel ∷ [] }) first.fits p.there refl refl
       (record { slot = to.slot; queue = each_append ParcelFits p.to.queue (p.parcel ∷ []) to.queue (was.slot p.parcel p.full, tt) })))
@@ -204,11 +220,13 @@ module _ (l : RlcLaws) where
   push_goes capacity old port pushed.QueueFull new fits p = goes_nowhere old new fits p.1
 
   pub pushes_hold : (old : Chain) (port : PortName) (events : List Event) (reply : Reply) (new : Chain) → Holds old → PushesAt old port events reply new → Holds new
-  pushes_hold old port events reply new h p = subst Holds (sym p.is) (goes_set l old AtRelay p.node h (push_goes (queue_capacity old) (node_at old AtRelay) port p.answer p.node (node_fits old h AtRelay) p.pushes))
+  pushes_hold old port events reply new h p = subst Holds (sym p.is)
+      (goes_set l old AtRelay p.node h (push_goes (queue_capacity old) (node_at old AtRelay) port p.answer p.node (node_fits old h AtRelay) p.pushes))
 
   -- an SDU goes from a queue to its transmitter
   pulls_go : (old : Node) (port : PortName) (number : ℕ) (new : Node) → NodeFits old → Pulls old port number new → Goes old new
-  pulls_go old port number new fits p = subst (Goes old) (sym p.is) (goes_called_as old port p.side now p.entity p.tx p.entity.rx fits p.its.here p.its.is_open mover refl refl refl (record { slot = was.slot; queue = all.1 }))
+  pulls_go old port number new fits p = subst (Goes old) (sym p.is)
+      (goes_called_as old port p.side now p.entity p.tx p.entity.rx fits p.its.here p.its.is_open mover refl refl refl (record { slot = was.slot; queue = all.1 }))
     where
       now : PortSide
       now = record p.side { entity = Some (record p.entity { tx = p.tx }); queue = p.parcels }
@@ -220,7 +238,8 @@ module _ (l : RlcLaws) where
       all = subst (AllByRecursion ParcelFits) p.waits was.queue
 
       mover : (at : Side) (q : Port) → IsSide q at p.entity.tx p.entity.rx → Moved q at p.tx p.entity.rx
-      mover at q is = let m = l.give_moves q at p.entity.tx p.entity.rx is (parcel_tag p.parcel) p.parcel.sdu number p.tx all.0.some all.0.most p.gives in moves (way_from at) (Give (parcel_tag p.parcel) p.parcel.sdu) m.0 refl m.1
+      mover at q is = let m = l.give_moves q at p.entity.tx p.entity.rx is (parcel_tag p.parcel) p.parcel.sdu number p.tx all.0.some all.0.most p.gives in moves (way_from at)
+          (Give (parcel_tag p.parcel) p.parcel.sdu) m.0 refl m.1
 
   pull_goes : (old : Node) (port : PortName) (answer : PullReply) (new : Node) → NodeFits old → PullsPort old port answer new → Goes old new
   pull_goes old port (pulled.Done number) new fits p = pulls_go old port number new fits p.1
@@ -229,16 +248,19 @@ module _ (l : RlcLaws) where
   pull_goes old port pulled.Stalled new fits p = goes_nowhere old new fits p.1
 
   pub pulls_hold : (old : Chain) (port : PortName) (events : List Event) (reply : Reply) (new : Chain) → Holds old → PullsAt old port events reply new → Holds new
-  pulls_hold old port events reply new h p = subst Holds (sym p.is) (goes_set l old AtRelay p.node h (pull_goes (node_at old AtRelay) port p.answer p.node (node_fits old h AtRelay) p.pulls))
+  pulls_hold old port events reply new h p = subst Holds (sym p.is)
+      (goes_set l old AtRelay p.node h (pull_goes (node_at old AtRelay) port p.answer p.node (node_fits old h AtRelay) p.pulls))
 
   pub wants_hold : (old : Chain) (key : Key) (events : List Event) (reply : Reply) (new : Chain) → Holds old → Wants old key events reply new → Holds new
-  wants_hold old key events reply new h w = subst Holds (sym w.2) (goes_set l old (sink key) _ h (goes_incoming (node_at old (sink key)) (record (receiving_at old key) { wanted = true }) (node_fits old h (sink key))))
+  wants_hold old key events reply new h w = subst Holds (sym w.2)
+      (goes_set l old (sink key) _ h (goes_incoming (node_at old (sink key)) (record (receiving_at old key) { wanted = true }) (node_fits old h (sink key))))
 
 -- a plan that is set is the last one of its remote, and those of the others are as before
 pub plan_name : (c : Chain) (remote : Remote) (p : Plan) → plan_at c remote ≡ Some p → remote ≡ p.remote
 plan_name c remote p e = remote_is remote p.remote (find_passes (λ (p : Plan). is_remote remote p.remote) c.plans p e)
 
-pub plan_was : (c : Chain) (remote : Remote) (last p : Plan) → plan_at c remote ≡ Some last → p.remote ≡ last.remote → (other : Remote) (q : Plan) → plan_at (set_plan c p) other ≡ Some q → ((other ≡ remote) × (q ≡ p)) ⊎ ((other ≡ remote → ⊥) × (plan_at c other ≡ Some q))
+pub plan_was : (c : Chain) (remote : Remote) (last p : Plan) → plan_at c remote ≡ Some last → p.remote ≡ last.remote → (other : Remote) (q : Plan)
+    → plan_at (set_plan c p) other ≡ Some q → ((other ≡ remote) × (q ≡ p)) ⊎ ((other ≡ remote → ⊥) × (plan_at c other ≡ Some q))
 plan_was c remote last p there same other q e = elim (cases_remote other remote) [
   | inl this ↦ inl (this, sym (same_Some p q (sym (hit other this) ∙ e)))
   | inr ne ↦ inr (ne, sym (miss other ne) ∙ e)
@@ -249,7 +271,8 @@ plan_was c remote last p there same other q e = elim (cases_remote other remote)
 
     hit : (other : Remote) → other ≡ remote → plan_at (set_plan c p) other ≡ Some p
     hit other this =
-        find_hit (λ (x : Plan). is_remote other x.remote) (λ (x : Plan). is_remote p.remote x.remote) p (λ x. ap (λ (r : Remote). is_remote r x.remote) (this ∙ sym its)) (ap (is_remote other) (its ∙ sym this) ∙ remote_refl other) c.plans last
+        find_hit (λ (x : Plan). is_remote other x.remote) (λ (x : Plan). is_remote p.remote x.remote) p (λ x. ap (λ (r : Remote). is_remote r x.remote) (this ∙ sym its))
+        (ap (is_remote other) (its ∙ sym this) ∙ remote_refl other) c.plans last
         (ap (λ (r : Remote). plan_at c r) this ∙ there)
 
     miss : (other : Remote) → (other ≡ remote → ⊥) → plan_at (set_plan c p) other ≡ plan_at c other

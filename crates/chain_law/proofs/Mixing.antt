@@ -8,12 +8,13 @@ use Rattle.bearer_map.specs.Contents.{Contents}
 use Rattle.rlc_model.specs.declared.hop.Pdu.{Pdu}
 use Rattle.node_model.specs.Names.{NodeName, is_port}
 use Rattle.node_model.specs.State.{PortSide, Node, side_at}
-use Rattle.chain_law.proofs.Names.{cases_port, port_apart, port_refl}
+use Rattle.node_model.proofs.Names.{cases_port, port_apart, port_refl}
 use Rattle.chain_law.proofs.Stands.{View, Limits, Stands, shown, put, put_alike, stands_same}
 use Rattle.chain_law.proofs.Nodes.{port_of}
 
 -- sides stand with higher limits too
-pub stands_higher : {t : Contents} {view : View} {limit : Limits} {air : List (Option Pdu)} (higher : Limits) → ((side : Side) (name : PortName) → limit side name ≤ higher side name) → Stands t view limit air → Stands t view higher air
+pub stands_higher : {t : Contents} {view : View} {limit : Limits} {air : List (Option Pdu)} (higher : Limits)
+    → ((side : Side) (name : PortName) → limit side name ≤ higher side name) → Stands t view limit air → Stands t view higher air
 stands_higher higher le s = record {
   ports = s.ports;
   epochs = s.epochs;
@@ -28,7 +29,8 @@ stands_higher higher le s = record {
 -- a side that isn't among the names of all isn't there
 not_named : (ports : List PortSide) (q : PortName) → list_any (is_port q) (map port_of ports) ≡ false → find (λ (s : PortSide). is_port q s.name) ports ≡ None
 not_named [] q e = refl
-not_named (s ∷ ss) q e = let p = or_parts (is_port q s.name) (list_any (is_port q) (map port_of ss)) e in cond-false (is_port q s.name) (Some s) (find (λ (s : PortSide). is_port q s.name) ss) p.0 ∙ not_named ss q p.1
+not_named (s ∷ ss) q e = let p = or_parts (is_port q s.name) (list_any (is_port q) (map port_of ss)) e in cond-false (is_port q s.name) (Some s)
+    (find (λ (s : PortSide). is_port q s.name) ss) p.0 ∙ not_named ss q p.1
 
 module _ (n m : Node) where
   -- the node where the ports of these names have changed
@@ -44,11 +46,15 @@ module _ (n m : Node) where
   pub mixed_this : (p : PortName) (names : List PortName) → mixed (p ∷ names) p ≡ side_at m p
   mixed_this p names = ap (λ (b : Bool). cond (b || list_any (is_port p) names) (side_at m p) (side_at n p)) (port_refl p)
 
-  module _ {t : Contents} {air : List (Option Pdu)} (v : View) (x : NodeName) (limits : List PortName → Limits) (up : (p : PortName) (names : List PortName) (side : Side) (q : PortName) → limits names side q ≤ limits (p ∷ names) side q)
-      (one : (p : PortName) (names : List PortName) → list_any (is_port p) names ≡ false → Stands t (put v x (mixed names)) (limits names) air → Stands t (put v x (mixed (p ∷ names))) (limits (p ∷ names)) air) where
+  module _ {t : Contents} {air : List (Option Pdu)} (v : View) (x : NodeName) (limits : List PortName → Limits)
+      (up : (p : PortName) (names : List PortName) (side : Side) (q : PortName) → limits names side q ≤ limits (p ∷ names) side q)
+      (one : (p : PortName) (names : List PortName) → list_any (is_port p) names ≡ false → Stands t (put v x (mixed names)) (limits names) air
+      → Stands t (put v x (mixed (p ∷ names))) (limits (p ∷ names)) air) where
     -- a name that stands there twice changes nothing more
-    once_more : (p : PortName) (names : List PortName) → list_any (is_port p) names ≡ true → Stands t (put v x (mixed names)) (limits names) air → Stands t (put v x (mixed (p ∷ names))) (limits (p ∷ names)) air
-    once_more p names again s = stands_higher (limits (p ∷ names)) (up p names) (stands_same _ (put_alike v x (mixed names) (mixed (p ∷ names)) (λ q own. ap (option_map shown) (same q (cases_port q p)))) s)
+    once_more : (p : PortName) (names : List PortName) → list_any (is_port p) names ≡ true → Stands t (put v x (mixed names)) (limits names) air
+        → Stands t (put v x (mixed (p ∷ names))) (limits (p ∷ names)) air
+    once_more p names again s = stands_higher (limits (p ∷ names)) (up p names)
+        (stands_same _ (put_alike v x (mixed names) (mixed (p ∷ names)) (λ q own. ap (option_map shown) (same q (cases_port q p)))) s)
       where
         same : (q : PortName) → (q ≡ p) ⊎ (q ≡ p → ⊥) → mixed (p ∷ names) q ≡ mixed names q
         same q (inr ne) = mixed_other p names q ne
@@ -62,8 +68,10 @@ module _ (n m : Node) where
     ]
 
     -- all have
-    pub all_mixed : ((q : PortName) → side_at n q ≡ None → side_at m q ≡ None) → Stands t (put v x (side_at n)) (limits []) air → Stands t (put v x (side_at m)) (limits (map port_of n.ports)) air
-    all_mixed none s = stands_same _ (put_alike v x (mixed names) (side_at m) (λ q own. ap (option_map shown) (sym (whole q (cases_Bool (list_any (is_port q) names)))))) (all_names names s)
+    pub all_mixed : ((q : PortName) → side_at n q ≡ None → side_at m q ≡ None) → Stands t (put v x (side_at n)) (limits []) air
+        → Stands t (put v x (side_at m)) (limits (map port_of n.ports)) air
+    all_mixed none s = stands_same _ (put_alike v x (mixed names) (side_at m) (λ q own. ap (option_map shown) (sym (whole q (cases_Bool (list_any (is_port q) names))))))
+        (all_names names s)
       where
         names : List PortName
         names = map port_of n.ports

@@ -16,8 +16,8 @@ use Rattle.node_model.specs.declared.parcel.Parcel.{Parcel}
 use Rattle.node_model.specs.Names.{is_port, is_key, replaced}
 use Rattle.node_model.specs.State.{PortSide, Outgoing, Incoming, Node, side_at, set_side, set_entity, outgoing, outgoing_at, no_outgoing, set_outgoing, set_incoming}
 use Rattle.chain_law.specs.Entities.{IsSdu}
-use Rattle.chain_law.proofs.Names.{port_is, port_refl, port_apart}
-use Rattle.chain_law.proofs.Finding.{find_passes, find_hit, find_miss, each_found, each_replaced}
+use Rattle.node_model.proofs.Names.{port_is, port_refl, port_apart}
+use Rattle.node_model.proofs.Finding.{find_passes, find_hit, find_miss, each_found, each_replaced}
 use Rattle.chain_law.proofs.Pairs.{Pairwise}
 use Rattle.chain_law.proofs.Stands.{SideChanges, NodeMoves, rests, changes, calls, follow, Moved, shown}
 
@@ -53,7 +53,8 @@ pub record NodeFits (n : Node) : Type 0 where
 -- a side that is set leaves the names as they are
 names_set : (now : PortSide) (ports : List PortSide) → map port_of (replaced (λ (x : PortSide). is_port now.name x.name) now ports) ≡ map port_of ports
 names_set now [] = refl
-names_set now (s ∷ ss) = ap (λ (names : List PortName). port_of (cond (is_port now.name s.name) now s) ∷ names) (names_set now ss) ∙ ap (λ (p : PortName). p ∷ map port_of ss) (by (is_port now.name s.name) refl)
+names_set now (s ∷ ss) = ap (λ (names : List PortName). port_of (cond (is_port now.name s.name) now s) ∷ names) (names_set now ss)
+    ∙ ap (λ (p : PortName). p ∷ map port_of ss) (by (is_port now.name s.name) refl)
   where
     by : (b : Bool) → is_port now.name s.name ≡ b → port_of (cond b now s) ≡ s.name
     by true is = port_is now.name s.name is
@@ -66,7 +67,8 @@ side_name n port s e = port_is port s.name (find_passes (λ (x : PortSide). is_p
 -- a side that is set is found under its name, and the others are as before
 pub side_set : (n : Node) (port : PortName) (was now : PortSide) → side_at n port ≡ Some was → now.name ≡ was.name → SideChanges n port now (set_side n now)
 side_set n port was now there same_name = record {
-  here = find_hit (λ (x : PortSide). is_port port x.name) (λ (x : PortSide). is_port now.name x.name) now (λ x. ap (λ (p : PortName). is_port p x.name) its) (ap (is_port port) (sym its) ∙ port_refl port) n.ports was there;
+  here = find_hit (λ (x : PortSide). is_port port x.name) (λ (x : PortSide). is_port now.name x.name) now (λ x. ap (λ (p : PortName). is_port p x.name) its)
+      (ap (is_port port) (sym its) ∙ port_refl port) n.ports was there;
   others = λ q ne.
       find_miss (λ (x : PortSide). is_port q x.name) (λ (x : PortSide). is_port now.name x.name) now
       (λ x mine. port_apart q x.name (λ e. ne (e ∙ sym (port_is now.name x.name mine) ∙ sym its))) (port_apart q now.name (λ e. ne (e ∙ sym its))) n.ports;
@@ -94,7 +96,12 @@ fits_side n s fits is = record {
 }
 
 pub fits_outgoing : (n : Node) (o : Outgoing) → NodeFits n → OutgoingFits o → NodeFits (set_outgoing n o)
-fits_outgoing n o fits is = record { ports = fits.ports; outgoing = each_replaced OutgoingFits (λ (x : Outgoing). is_key o.key x.key) o is n.outgoing fits.outgoing; apart = fits.apart }
+fits_outgoing n o fits is = record {
+  ports = fits.ports;
+  outgoing = each_replaced OutgoingFits
+      (λ (x : Outgoing). is_key o.key x.key) o is n.outgoing fits.outgoing;
+  apart = fits.apart;
+}
 
 pub fits_incoming : (n : Node) (i : Incoming) → NodeFits n → NodeFits (set_incoming n i)
 fits_incoming n i fits = record { ports = fits.ports; outgoing = fits.outgoing; apart = fits.apart }
@@ -123,12 +130,19 @@ pub goes_incoming : (n : Node) (i : Incoming) → NodeFits n → Goes n (set_inc
 goes_incoming n i fits = record { moves = rests (λ q. refl); fits = fits_incoming n i fits; name = refl }
 
 -- a side changes but for its entity and size
-pub goes_changed : (n : Node) (port : PortName) (was now : PortSide) → NodeFits n → side_at n port ≡ Some was → now.name ≡ was.name → shown now ≡ shown was → SideFits now → Goes n (set_side n now)
-goes_changed n port was now fits here same_name same is = record { moves = changes port was now here same (side_set n port was now here same_name); fits = fits_side n now fits is; name = refl }
+pub goes_changed : (n : Node) (port : PortName) (was now : PortSide) → NodeFits n → side_at n port ≡ Some was → now.name ≡ was.name → shown now ≡ shown was → SideFits now
+    → Goes n (set_side n now)
+goes_changed n port was now fits here same_name same is = record {
+  moves = changes port was now here same
+      (side_set n port was now here same_name);
+  fits = fits_side n now fits is;
+  name = refl;
+}
 
 -- the entity of a side is called, and so the side becomes this
 pub goes_called_as : (n : Node) (port : PortName) (was now : PortSide) (entity : Entity) (tx : Tx) (rx : Rx) → NodeFits n → side_at n port ≡ Some was → was.entity ≡ Some entity
-    → ((at : Side) (p : Port) → IsSide p at entity.tx entity.rx → Moved p at tx rx) → now.name ≡ was.name → now.size ≡ was.size → now.entity ≡ Some (record entity { tx = tx; rx = rx }) → SideFits now → Goes n (set_side n now)
+    → ((at : Side) (p : Port) → IsSide p at entity.tx entity.rx → Moved p at tx rx) → now.name ≡ was.name → now.size ≡ was.size
+    → now.entity ≡ Some (record entity { tx = tx; rx = rx }) → SideFits now → Goes n (set_side n now)
 goes_called_as n port was now entity tx rx fits here is_open mover same_name same_size its is = record {
   moves = calls port was now entity tx rx here is_open same_size its mover (side_set n port was now here same_name);
   fits = fits_side n now fits is;
@@ -138,4 +152,5 @@ goes_called_as n port was now entity tx rx fits here is_open mover same_name sam
 pub goes_called : (n : Node) (port : PortName) (side : PortSide) (entity : Entity) (tx : Tx) (rx : Rx) → NodeFits n → side_at n port ≡ Some side → side.entity ≡ Some entity
     → ((at : Side) (p : Port) → IsSide p at entity.tx entity.rx → Moved p at tx rx) → Goes n (set_entity n side (record entity { tx = tx; rx = rx }))
 goes_called n port side entity tx rx fits here is_open mover =
-    goes_called_as n port side (record side { entity = Some (record entity { tx = tx; rx = rx }) }) entity tx rx fits here is_open mover refl refl refl (called_fits n port side (Some (record entity { tx = tx; rx = rx })) fits here)
+    goes_called_as n port side (record side { entity = Some (record entity { tx = tx; rx = rx }) }) entity tx rx fits here is_open mover refl refl refl
+    (called_fits n port side (Some (record entity { tx = tx; rx = rx })) fits here)

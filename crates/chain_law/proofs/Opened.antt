@@ -33,8 +33,8 @@ use Rattle.node_model.specs.Opening.{new_entity, new_side, direct_side, pc5_side
 use Rattle.chain_model.specs.declared.plan.Plan.{Plan}
 use Rattle.chain_model.specs.State.{first_plan, opened}
 use Rattle.chain_law.specs.Entities.{direct_size, pc5_size, uu_size, port_size, port_settings, next_epoch}
-use Rattle.chain_law.proofs.Names.{port_is}
-use Rattle.chain_law.proofs.Finding.{find_passes, find_append, find_flat, find_map, find_picked, each_found, each_append, each_made, each_map, each_flat}
+use Rattle.node_model.proofs.Names.{port_is}
+use Rattle.node_model.proofs.Finding.{find_passes, find_append, find_flat, find_map, find_picked, each_found, each_append, each_made, each_map, each_flat}
 use Rattle.chain_law.proofs.Stands.{Stands, sides_of}
 use Rattle.chain_law.proofs.Nodes.{NodeFits, SideFits, OutgoingFits, port_of, Differ}
 use Rattle.chain_law.proofs.Pairs.{Pairwise, pairs_append, pairs_picked, pairs_map, pairs_flat, ascending_pairs, each_passes, each_to_each}
@@ -47,7 +47,8 @@ pub record IsNew (t : Contents) (name : PortName) (s : PortSide) : Type 0 where
   pub size : s.size ≡ port_size t name
   pub entity : (s.entity ≡ None) ⊎ (s.entity ≡ Some (new_entity (settings t) s.size 0))
 
-new_or_closed : (t : Contents) (size : SnSize) (is_open : Bool) → (cond is_open (Some (new_entity (settings t) size 0)) None ≡ None) ⊎ (cond is_open (Some (new_entity (settings t) size 0)) None ≡ Some (new_entity (settings t) size 0))
+new_or_closed : (t : Contents) (size : SnSize) (is_open : Bool)
+    → (cond is_open (Some (new_entity (settings t) size 0)) None ≡ None) ⊎ (cond is_open (Some (new_entity (settings t) size 0)) None ≡ Some (new_entity (settings t) size 0))
 new_or_closed t size true = inr refl
 new_or_closed t size false = inl refl
 
@@ -81,7 +82,8 @@ SidesDiffer x y = Differ x.name y.name
 module _ (t : Contents) where
   -- sides that were made of rows are, where the first row of a port's name gives the port's size
   made_new : {Row : Type 0} (name : Row → PortName) (size : Row → SnSize) (opens : Row → Bool) (picks : Row → Bool) (rows : List Row) (q : PortName) (s : PortSide)
-      → ((row : Row) → find (λ row. is_port q (name row)) rows ≡ Some row → port_size t q ≡ size row) → ((a b : Row) → is_port q (name a) ≡ true → is_port q (name b) ≡ true → picks a ≡ picks b)
+      → ((row : Row) → find (λ row. is_port q (name row)) rows ≡ Some row → port_size t q ≡ size row)
+      → ((a b : Row) → is_port q (name a) ≡ true → is_port q (name b) ≡ true → picks a ≡ picks b)
       → find (λ (s : PortSide). is_port q s.name) (map (λ row. new_side (settings t) (name row) (size row) (opens row)) (filter picks rows)) ≡ Some s → IsNew t q s
   made_new {Row} name size opens picks rows q s its one e = go (find (λ row. is_port q (name row)) (filter picks rows)) refl
     where
@@ -109,11 +111,13 @@ module _ (t : Contents) where
   uu_first (Pc5 r c) row is = absurd (false≢true (find_passes (λ (row : UuRow). is_port (Pc5 r c) (Uu row.chan)) t.uus row is))
 
   directs_new : (goal : Goal) (remote : Remote) → SidesAreNew t (map (direct_side (settings t) goal) (bearers_of t remote))
-  directs_new goal remote q s = made_new (λ (row : BearerRow). Direct row.remote row.drb) (λ (row : BearerRow). row.direct) (λ (row : BearerRow). is_open_on goal (Direct row.remote row.drb)) (λ (row : BearerRow). is_remote remote row.remote) t.bearers q s
+  directs_new goal remote q s = made_new (λ (row : BearerRow). Direct row.remote row.drb) (λ (row : BearerRow). row.direct)
+      (λ (row : BearerRow). is_open_on goal (Direct row.remote row.drb)) (λ (row : BearerRow). is_remote remote row.remote) t.bearers q s
       (direct_first q) (λ a b x y. ap (is_of remote) (sym (port_is q (Direct a.remote a.drb) x) ∙ port_is q (Direct b.remote b.drb) y))
 
   pc5s_new : (goal : Goal) (remote : Remote) → SidesAreNew t (map (pc5_side (settings t) goal) (pc5s_of t remote))
-  pc5s_new goal remote q s = made_new (λ (row : Pc5Row). Pc5 row.remote row.chan) (λ (row : Pc5Row). row.size) (λ (row : Pc5Row). is_open_on goal (Pc5 row.remote row.chan)) (λ (row : Pc5Row). is_remote remote row.remote) t.pc5s q s
+  pc5s_new goal remote q s = made_new (λ (row : Pc5Row). Pc5 row.remote row.chan) (λ (row : Pc5Row). row.size) (λ (row : Pc5Row). is_open_on goal (Pc5 row.remote row.chan))
+      (λ (row : Pc5Row). is_remote remote row.remote) t.pc5s q s
       (pc5_first q) (λ a b x y. ap (is_of remote) (sym (port_is q (Pc5 a.remote a.chan) x) ∙ port_is q (Pc5 b.remote b.chan) y))
 
   uus_new : SidesAreNew t (map (uu_side (settings t)) t.uus)
@@ -121,7 +125,9 @@ module _ (t : Contents) where
     where
       go : (o : Option UuRow) → find (λ (row : UuRow). is_port q (Uu row.chan)) t.uus ≡ o → IsNew t q s
       go None is = absurd (none-some s (sym (find_map (uu_side (settings t)) (λ (s : PortSide). is_port q s.name) t.uus ∙ ap (option_map (uu_side (settings t))) is) ∙ e))
-      go (Some row) is = subst (IsNew t q) (same_Some (uu_side (settings t) row) s (sym (find_map (uu_side (settings t)) (λ (s : PortSide). is_port q s.name) t.uus ∙ ap (option_map (uu_side (settings t))) is) ∙ e))
+      go (Some row) is = subst (IsNew t q)
+          (same_Some (uu_side (settings t) row) s
+          (sym (find_map (uu_side (settings t)) (λ (s : PortSide). is_port q s.name) t.uus ∙ ap (option_map (uu_side (settings t))) is) ∙ e))
           (record { size = sym (uu_first q row is); entity = inr refl })
 
   both_new : (xs ys : List PortSide) → SidesAreNew t xs → SidesAreNew t ys → SidesAreNew t (xs ++ ys)
@@ -173,7 +179,8 @@ module _ (t : Contents) where
   -- their ports have names apart
   module _ (a : TablesApart t) where
     -- rows in order make sides with names apart
-    rows_apart : {Row : Type 0} (rank : Row → ℕ) (make : Row → PortSide) (picks : Row → Bool) → ((x y : Row) → (make x).name ≡ (make y).name → rank x ≡ rank y) → (rows : List Row) → IsAscending rank rows → Pairwise SidesDiffer (map make (filter picks rows))
+    rows_apart : {Row : Type 0} (rank : Row → ℕ) (make : Row → PortSide) (picks : Row → Bool) → ((x y : Row) → (make x).name ≡ (make y).name → rank x ≡ rank y)
+        → (rows : List Row) → IsAscending rank rows → Pairwise SidesDiffer (map make (filter picks rows))
     rows_apart {Row} rank make picks one rows ascend =
         pairs_map SidesDiffer (λ (x y : Row). rank x < rank y) make (λ x y lt same. absurd (omega (arith, lt, one x y same))) (filter picks rows)
         (pairs_picked (λ (x y : Row). rank x < rank y) picks rows (ascending_pairs rank rows ascend))
@@ -187,20 +194,24 @@ module _ (t : Contents) where
         (λ x y same. ap (λ (p : PortName). pair (remote_in p) (number_in p)) same) t.pc5s a.pc5s
 
     uus_apart : Pairwise SidesDiffer (map (uu_side (settings t)) t.uus)
-    uus_apart = pairs_map SidesDiffer (λ (x y : UuRow). uu_rank x < uu_rank y) (uu_side (settings t)) (λ x y lt same. absurd (uus_one x y lt (ap number_in same))) t.uus (ascending_pairs uu_rank t.uus a.uus)
+    uus_apart = pairs_map SidesDiffer (λ (x y : UuRow). uu_rank x < uu_rank y) (uu_side (settings t)) (λ x y lt same. absurd (uus_one x y lt (ap number_in same))) t.uus
+        (ascending_pairs uu_rank t.uus a.uus)
       where
         uus_one : (x y : UuRow) → uu_rank x < uu_rank y → uu_rank x ≡ uu_rank y → ⊥
         uus_one x y lt same = absurd (omega (arith, lt, same))
 
     -- sides of ports of two kinds, and of two remotes, have names apart
-    kinds_apart : (k j : ℕ) → (k ≡ j → ⊥) → (xs ys : List PortSide) → AllByRecursion (HasKind k) xs → AllByRecursion (HasKind j) ys → AllByRecursion (λ x. AllByRecursion (SidesDiffer x) ys) xs
+    kinds_apart : (k j : ℕ) → (k ≡ j → ⊥) → (xs ys : List PortSide) → AllByRecursion (HasKind k) xs → AllByRecursion (HasKind j) ys
+        → AllByRecursion (λ x. AllByRecursion (SidesDiffer x) ys) xs
     kinds_apart k j ne xs ys = each_to_each (HasKind k) (HasKind j) SidesDiffer (λ x y p q same. ne (sym p ∙ ap kind_in same ∙ q)) xs ys
 
-    remotes_apart : (make : RemoteRow → List PortSide) → ((row : RemoteRow) → Pairwise SidesDiffer (make row)) → ((row : RemoteRow) → AllByRecursion (λ (s : PortSide). is_of row.remote s.name ≡ true) (make row))
+    remotes_apart : (make : RemoteRow → List PortSide) → ((row : RemoteRow) → Pairwise SidesDiffer (make row))
+        → ((row : RemoteRow) → AllByRecursion (λ (s : PortSide). is_of row.remote s.name ≡ true) (make row))
         → Pairwise SidesDiffer (flat_map make t.remotes)
     remotes_apart make each own = pairs_flat SidesDiffer (λ (x y : RemoteRow). remote_rank x < remote_rank y) make each
         (λ x y lt. each_to_each (λ (s : PortSide). is_of x.remote s.name ≡ true) (λ (s : PortSide). is_of y.remote s.name ≡ true) SidesDiffer
-        (λ s u p q same. absurd (one_rank x y lt (ap (λ (r : Remote). r.0) (one_remote x.remote y.remote s.name p (ap (is_of y.remote) same ∙ q))))) (make x) (make y) (own x) (own y))
+        (λ s u p q same. absurd (one_rank x y lt (ap (λ (r : Remote). r.0) (one_remote x.remote y.remote s.name p (ap (is_of y.remote) same ∙ q))))) (make x) (make y) (own x)
+        (own y))
         t.remotes (ascending_pairs remote_rank t.remotes a.remotes)
       where
         one_rank : (x y : RemoteRow) → remote_rank x < remote_rank y → remote_rank x ≡ remote_rank y → ⊥
@@ -214,19 +225,25 @@ module _ (t : Contents) where
         (each_made NodeFits (new_remote t) (λ row. record {
           ports = fits_both _ _ (directs_fit row) (pc5s_fit row);
           outgoing = each_made OutgoingFits (new_outgoing Ul) (fresh_sender Ul) (bearers_of t row.remote);
-          apart = names_apart (new_remote t row).ports (pairs_append SidesDiffer _ _ (directs_apart row.goal row.remote) (pc5s_apart row.goal row.remote) (kinds_apart 0 1 (λ e. absurd (omega (arith, e))) _ _ (directs_kind row) (pc5s_kind row)));
+          apart = names_apart (new_remote t row).ports
+              (pairs_append SidesDiffer _ _ (directs_apart row.goal row.remote) (pc5s_apart row.goal row.remote)
+              (kinds_apart 0 1 (λ e. absurd (omega (arith, e))) _ _ (directs_kind row) (pc5s_kind row)));
         }) t.remotes) (
           record {
             ports = fits_both _ _ (each_flat SideFits _ pc5s_fit t.remotes) uus_fit;
             outgoing = tt;
-            apart = names_apart (new_relay t).ports (pairs_append SidesDiffer _ _ (remotes_apart (λ (row : RemoteRow). map (pc5_side (settings t) row.goal) (pc5s_of t row.remote)) (λ row. pc5s_apart row.goal row.remote) pc5s_own) uus_apart
+            apart = names_apart (new_relay t).ports
+                (pairs_append SidesDiffer _ _ (remotes_apart (λ (row : RemoteRow). map (pc5_side (settings t) row.goal) (pc5s_of t row.remote))
+                (λ row. pc5s_apart row.goal row.remote) pc5s_own) uus_apart
                 (kinds_apart 1 2 (λ e. absurd (omega (arith, e))) _ _ (each_flat (HasKind 1) _ pc5s_kind t.remotes) uus_kind));
           },
           (
             record {
               ports = fits_both _ _ (each_flat SideFits _ directs_fit t.remotes) uus_fit;
               outgoing = each_made OutgoingFits (new_outgoing Dl) (fresh_sender Dl) t.bearers;
-              apart = names_apart (new_gnb t).ports (pairs_append SidesDiffer _ _ (remotes_apart (λ (row : RemoteRow). map (direct_side (settings t) row.goal) (bearers_of t row.remote)) (λ row. directs_apart row.goal row.remote) directs_own) uus_apart
+              apart = names_apart (new_gnb t).ports
+                  (pairs_append SidesDiffer _ _ (remotes_apart (λ (row : RemoteRow). map (direct_side (settings t) row.goal) (bearers_of t row.remote))
+                  (λ row. directs_apart row.goal row.remote) directs_own) uus_apart
                   (kinds_apart 0 2 (λ e. absurd (omega (arith, e))) _ _ (each_flat (HasKind 0) _ directs_kind t.remotes) uus_kind));
             },
             tt,
@@ -243,11 +260,13 @@ module _ (t : Contents) where
         uus_kind = each_made (HasKind 2) (uu_side (settings t)) (λ r. refl) t.uus
 
         directs_own : (row : RemoteRow) → AllByRecursion (λ (s : PortSide). is_of row.remote s.name ≡ true) (map (direct_side (settings t) row.goal) (bearers_of t row.remote))
-        directs_own row = each_map (λ (s : PortSide). is_of row.remote s.name ≡ true) (λ (r : BearerRow). is_remote row.remote r.remote ≡ true) (direct_side (settings t) row.goal) (λ r its. its) (bearers_of t row.remote)
+        directs_own row = each_map (λ (s : PortSide). is_of row.remote s.name ≡ true) (λ (r : BearerRow). is_remote row.remote r.remote ≡ true)
+            (direct_side (settings t) row.goal) (λ r its. its) (bearers_of t row.remote)
             (each_passes (λ (r : BearerRow). is_remote row.remote r.remote) t.bearers)
 
         pc5s_own : (row : RemoteRow) → AllByRecursion (λ (s : PortSide). is_of row.remote s.name ≡ true) (map (pc5_side (settings t) row.goal) (pc5s_of t row.remote))
-        pc5s_own row = each_map (λ (s : PortSide). is_of row.remote s.name ≡ true) (λ (r : Pc5Row). is_remote row.remote r.remote ≡ true) (pc5_side (settings t) row.goal) (λ r its. its) (pc5s_of t row.remote)
+        pc5s_own row = each_map (λ (s : PortSide). is_of row.remote s.name ≡ true) (λ (r : Pc5Row). is_remote row.remote r.remote ≡ true) (pc5_side (settings t) row.goal)
+            (λ r its. its) (pc5s_of t row.remote)
             (each_passes (λ (r : Pc5Row). is_remote row.remote r.remote) t.pc5s)
 
   -- each port is at its start in epoch 0
@@ -256,13 +275,33 @@ module _ (t : Contents) where
 
   is_first : (name : PortName) (epoch : ℕ) (port : Port) → first_ports name epoch ≡ Some port → (epoch ≡ 0) × (port ≡ start_port (port_settings t name))
   is_first name epoch port e = elim (cases_Bool (eqb epoch 0)) [
-    | inl zero ↦ (eqb-true epoch 0 zero, sym (same_Some (start_port (port_settings t name)) port (sym (cond-true (eqb epoch 0) (Some (start_port (port_settings t name))) None zero) ∙ e)))
+    | inl zero ↦ (
+      eqb-true epoch 0 zero,
+      sym
+          (same_Some (start_port (port_settings t name)) port (sym (cond-true (eqb epoch 0) (Some (start_port (port_settings t name))) None zero) ∙ e)),
+    )
     | inr other ↦ absurd (none-some port (sym (cond-false (eqb epoch 0) (Some (start_port (port_settings t name))) None other) ∙ e))
   ]
 
   start_reaches : (name : PortName) → ReachesPort (start_port (port_settings t name))
-  start_reaches name Ul = record { size = port_size t name; poll_pdu = (settings t).poll_pdu; poll_byte = (settings t).poll_byte; max_retx_threshold = (settings t).max_retx; events = []; run = refl }
-  start_reaches name Dl = record { size = port_size t name; poll_pdu = (settings t).poll_pdu; poll_byte = (settings t).poll_byte; max_retx_threshold = (settings t).max_retx; events = []; run = refl }
+  start_reaches name Ul = record {
+    size = port_size t name;
+    poll_pdu = (settings t).poll_pdu;
+    poll_byte = (settings t).poll_byte;
+    max_retx_threshold =
+        (settings t).max_retx;
+    events = [];
+    run = refl;
+  }
+  start_reaches name Dl = record {
+    size = port_size t name;
+    poll_pdu = (settings t).poll_pdu;
+    poll_byte = (settings t).poll_byte;
+    max_retx_threshold =
+        (settings t).max_retx;
+    events = [];
+    run = refl;
+  }
 
   start_size : (name : PortName) → HasSize (port_size t name) (start_port (port_settings t name))
   start_size name Ul = (refl, refl)
@@ -302,7 +341,8 @@ module _ (t : Contents) where
     };
     opened = λ ticket pdu on. absurd (nothing_there ticket pdu on);
     sides = record {
-      open_port = λ side name e is. subst (λ (e : Entity). (port : Port) × (first_ports name e.epoch ≡ Some port) × IsSide port side e.tx e.rx) (open_new side name e is) (start_port (port_settings t name), refl, record { its_tx = refl; its_rx = refl });
+      open_port = λ side name e is. subst (λ (e : Entity). (port : Port) × (first_ports name e.epoch ≡ Some port) × IsSide port side e.tx e.rx) (open_new side name e is)
+          (start_port (port_settings t name), refl, record { its_tx = refl; its_rx = refl });
       open_epoch = λ side name e is. subst (λ (e : Entity). e.epoch < 1) (open_new side name e is) (omega arith);
       not_open = λ side name epoch port le is. let zero_epoch : epoch ≡ 0 = (is_first name epoch port is).0 in absurd (omega (arith, le, zero_epoch));
       sizes = λ name epoch port is. subst (HasSize (port_size t name)) (sym (is_first name epoch port is).1) (start_size name);
@@ -325,7 +365,8 @@ module _ (t : Contents) where
   opened_holds a = record {
     limit = λ side name. 1;
     stands = opened_stands;
-    fresh = λ remote plan is side name of. each_found IsFirstPlan (λ (p : Plan). is_remote remote p.remote) (opened t).plans plan (each_made IsFirstPlan first_plan first_is t.remotes) is _;
+    fresh = λ remote plan is side name of. each_found IsFirstPlan (λ (p : Plan). is_remote remote p.remote) (opened t).plans plan
+        (each_made IsFirstPlan first_plan first_is t.remotes) is _;
     nodes = nodes_fit a;
     tickets = omega arith;
   }

@@ -1,9 +1,9 @@
 -- Lists of which each item stands so to each later one.
-use Rattle.std.proofs.Common.{◌≡◌, ℕ, ◌<◌, Bool, true, false, cond, eqb, nat_lt, List, [], ◌∷◌, ◌++◌, map, filter, flat_map, refl, arith}
+use Rattle.std.proofs.Common.{◌||◌, ◌≡◌, ℕ, ◌<◌, Bool, true, false, cond, eqb, nat_lt, List, [], ◌∷◌, ◌++◌, map, filter, flat_map, refl, arith, ap, sym, ◌∙◌, inl, inr}
 use Rattle.std.specs.List.{AllByRecursion, list_any}
-use Rattle.std.proofs.lemmas.Bool.{or_parts, ltb-true, ltb-false, eqb-false}
+use Rattle.std.proofs.lemmas.Bool.{cases_Bool, or_parts, or_left, or_right, ltb-true, ltb-false, eqb-false, false≢true}
 use Rattle.bearer_map.specs.Order.{has_row, in_order, IsAscending}
-use Rattle.chain_law.proofs.Finding.{each_append, each_map}
+use Rattle.node_model.proofs.Finding.{each_append, each_map}
 
 -- each item stands so to each later one
 abbrev pub Pairwise : {T : Type 0} → (T → T → Type 0) → List T → Type 0
@@ -24,7 +24,8 @@ pub each_passes : {T : Type 0} (picks : T → Bool) (xs : List T) → AllByRecur
 each_passes {T} picks [] = tt
 each_passes {T} picks (x ∷ xs) = by (picks x) refl (each_passes picks xs)
   where
-    by : (b : Bool) → picks x ≡ b → AllByRecursion (λ (x : T). picks x ≡ true) (filter picks xs) → AllByRecursion (λ (x : T). picks x ≡ true) (cond b (x ∷ filter picks xs) (filter picks xs))
+    by : (b : Bool) → picks x ≡ b → AllByRecursion (λ (x : T). picks x ≡ true) (filter picks xs)
+        → AllByRecursion (λ (x : T). picks x ≡ true) (cond b (x ∷ filter picks xs) (filter picks xs))
     by true is more = (is, more)
     by false is more = more
 
@@ -34,7 +35,8 @@ each_then P Q gives [] all = tt
 each_then P Q gives (x ∷ xs) all = (gives x all.0, each_then P Q gives xs all.1)
 
 -- each of one list stands so to each of another
-pub each_to_each : {S T : Type 0} (P : S → Type 0) (Q : T → Type 0) (R : S → T → Type 0) → ((x : S) (y : T) → P x → Q y → R x y) → (xs : List S) (ys : List T) → AllByRecursion P xs → AllByRecursion Q ys → AllByRecursion (λ x. AllByRecursion (R x) ys) xs
+pub each_to_each : {S T : Type 0} (P : S → Type 0) (Q : T → Type 0) (R : S → T → Type 0) → ((x : S) (y : T) → P x → Q y → R x y) → (xs : List S) (ys : List T)
+    → AllByRecursion P xs → AllByRecursion Q ys → AllByRecursion (λ x. AllByRecursion (R x) ys) xs
 each_to_each P Q R gives xs ys some more = each_then P (λ x. AllByRecursion (R x) ys) (λ x p. each_then Q (R x) (λ y q. gives x y p q) ys more) xs some
 
 module _ {T : Type 0} (R : T → T → Type 0) where
@@ -54,12 +56,14 @@ module _ {T : Type 0} (R : T → T → Type 0) where
   pairs_map Q make gives [] all = tt
   pairs_map Q make gives (x ∷ xs) all = (each_map (R (make x)) (Q x) make (gives x) xs all.0, pairs_map Q make gives xs all.1)
 
-  pub pairs_flat : {X : Type 0} (Q : X → X → Type 0) (make : X → List T) → ((x : X) → Pairwise R (make x)) → ((x y : X) → Q x y → AllByRecursion (λ a. AllByRecursion (R a) (make y)) (make x))
+  pub pairs_flat : {X : Type 0} (Q : X → X → Type 0) (make : X → List T) → ((x : X) → Pairwise R (make x))
+      → ((x y : X) → Q x y → AllByRecursion (λ a. AllByRecursion (R a) (make y)) (make x))
       → (xs : List X) → Pairwise Q xs → Pairwise R (flat_map make xs)
   pairs_flat Q make each across [] all = tt
   pairs_flat {X} Q make each across (x ∷ xs) all = pairs_append (make x) (flat_map make xs) (each x) (pairs_flat Q make each across xs all.1) (to_all xs all.0)
     where
-      join : (xs : List T) (ys zs : List T) → AllByRecursion (λ a. AllByRecursion (R a) ys) xs → AllByRecursion (λ a. AllByRecursion (R a) zs) xs → AllByRecursion (λ a. AllByRecursion (R a) (ys ++ zs)) xs
+      join : (xs : List T) (ys zs : List T) → AllByRecursion (λ a. AllByRecursion (R a) ys) xs → AllByRecursion (λ a. AllByRecursion (R a) zs) xs
+          → AllByRecursion (λ a. AllByRecursion (R a) (ys ++ zs)) xs
       join [] ys zs p q = tt
       join (a ∷ rest) ys zs p q = (each_append (R a) ys zs p.0 q.0, join rest ys zs p.1 q.1)
 
@@ -77,7 +81,7 @@ module _ {T : Type 0} (rank : T → ℕ) where
   ascending_pairs [] all = tt
   ascending_pairs (r ∷ rows) all = (all.0, ascending_pairs rows all.1)
 
-  each_in_order : (P : T → Type 0) (row : T) → P row → (rows : List T) → AllByRecursion P rows → AllByRecursion P (in_order rank row rows)
+  pub each_in_order : (P : T → Type 0) (row : T) → P row → (rows : List T) → AllByRecursion P rows → AllByRecursion P (in_order rank row rows)
   each_in_order P row is [] all = (is, tt)
   each_in_order P row is (r ∷ rows) all = by (nat_lt (rank row) (rank r)) (each_in_order P row is rows all.1)
     where
@@ -104,3 +108,20 @@ module _ {T : Type 0} (rank : T → ℕ) where
   map_keeps change same [] all = tt
   map_keeps change same (r ∷ rows) all =
       (each_map (λ (x : T). rank (change r) < rank x) (λ (x : T). rank r < rank x) change (λ x p. omega (arith, p, same r, same x)) rows all.0, map_keeps change same rows all.1)
+
+  -- a row that is there is there with one more, and where rows keep their ranks
+  pub row_stays : (row : T) (rows : List T) (n : ℕ) → has_row rank rows n ≡ true → has_row rank (in_order rank row rows) n ≡ true
+  row_stays row [] n e = absurd (false≢true e)
+  row_stays row (r ∷ rows) n e = by (nat_lt (rank row) (rank r)) (row_stays row rows n)
+    where
+      by : (b : Bool) → (has_row rank rows n ≡ true → has_row rank (in_order rank row rows) n ≡ true) → has_row rank (cond b (row ∷ r ∷ rows) (r ∷ in_order rank row rows)) n ≡ true
+      by true more = or_right (eqb (rank row) n) (has_row rank (r ∷ rows) n) e
+      by false more = elim (cases_Bool (eqb (rank r) n)) [
+        | inl here ↦ or_left (eqb (rank r) n) _ here
+        | inr other ↦ or_right (eqb (rank r) n) _ (more (sym (ap (λ (b : Bool). b || has_row rank rows n) other) ∙ e))
+      ]
+
+  pub row_mapped : (change : T → T) → ((x : T) → rank (change x) ≡ rank x) → (rows : List T) (n : ℕ) → has_row rank (map change rows) n ≡ has_row rank rows n
+  row_mapped change same [] n = refl
+  row_mapped change same (r ∷ rows) n = ap (λ (k : ℕ). eqb k n || has_row rank (map change rows) n) (same r)
+      ∙ ap (λ (b : Bool). eqb (rank r) n || b) (row_mapped change same rows n)

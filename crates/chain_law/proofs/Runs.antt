@@ -26,20 +26,26 @@ use Rattle.chain_law.proofs.Opened.{opened_holds}
 use Rattle.chain_law.proofs.Tables.{TablesApart, nothing_apart, stage_apart}
 
 module _ (l : RlcLaws) where
-  does_hold : (old : Chain) (line : Line) (events : List Event) (reply : Reply) (new : Chain) → Holds old → Does old line events reply new → Holds new
-  does_hold old (Submit key sdu) events reply new h d = unless_holds (submit_refusal old key) old events reply new _ h (λ none done. submits_hold l old key sdu events reply new h done) d
-  does_hold old (Grant port way octets) events reply new h d = unless_holds (grant_refusal old port way) old events reply new _ h (λ none done. granted_holds l old port way octets events reply new h none done) d
+  pub does_hold : (old : Chain) (line : Line) (events : List Event) (reply : Reply) (new : Chain) → Holds old → Does old line events reply new → Holds new
+  does_hold old (Submit key sdu) events reply new h d = unless_holds (submit_refusal old key) old events reply new _ h
+      (λ none done. submits_hold l old key sdu events reply new h done) d
+  does_hold old (Grant port way octets) events reply new h d = unless_holds (grant_refusal old port way) old events reply new _ h
+      (λ none done. granted_holds l old port way octets events reply new h none done) d
   does_hold old (Deliver ticket) events reply new h d = delivers_hold l old ticket events reply new (without ticket) (λ c h. off_holds l c ticket h) h d
   does_hold old (Repeat ticket) events reply new h d = delivers_hold l old ticket events reply new (λ c. c) (λ c h. h) h d
   does_hold old (Lose ticket) events reply new h d = loses_hold l old (on_air old.air ticket) ticket events reply new h d
-  does_hold old (Stage ticket) events reply new h d = unless_holds (stage_refusal (on_air old.air ticket)) old events reply new _ h (λ none done. stages_hold l old ticket events reply new h done) d
-  does_hold old (Expire port at timer) events reply new h d = unless_holds (expire_refusal old port at) old events reply new _ h (λ none done. expires_hold l old port at timer events reply new h done) d
+  does_hold old (Stage ticket) events reply new h d = unless_holds (stage_refusal (on_air old.air ticket)) old events reply new _ h
+      (λ none done. stages_hold l old ticket events reply new h done) d
+  does_hold old (Expire port at timer) events reply new h d = unless_holds (expire_refusal old port at) old events reply new _ h
+      (λ none done. expires_hold l old port at timer events reply new h done) d
   does_hold old (Push port) events reply new h d = pushes_hold l old port events reply new h d
   does_hold old (Pull port) events reply new h d = pulls_hold l old port events reply new h d
   does_hold old Burst events reply new h d = bursts_hold l old events reply new h d
   does_hold old (Report key) events reply new h d = unless_holds (report_refusal old key) old events reply new _ h (λ none done. wants_hold l old key events reply new h done) d
-  does_hold old (PlanLine remote goal) events reply new h d = unless_holds (plan_refusal old remote goal) old events reply new _ h (λ none done. plans_hold old remote goal events reply new h done) d
-  does_hold old (Apply remote kind) events reply new h d = unless_holds (apply_refusal old remote kind) old events reply new _ h (λ none done. applies_hold l old remote kind events reply new h none done) d
+  does_hold old (PlanLine remote goal) events reply new h d = unless_holds (plan_refusal old remote goal) old events reply new _ h
+      (λ none done. plans_hold old remote goal events reply new h done) d
+  does_hold old (Apply remote kind) events reply new h d = unless_holds (apply_refusal old remote kind) old events reply new _ h
+      (λ none done. applies_hold l old remote kind events reply new h none done) d
   does_hold old line events reply new h d = absurd d
 
   -- a line, and then the nodes feed
@@ -55,7 +61,8 @@ module _ (l : RlcLaws) where
   drains_hold (Some r) old inner reply new h d = subst Holds (sym d.2) h
   drains_hold None old inner reply new h d = run_holds old d.moments new h d.is_drain.run
 
-  behaves_hold : (old : Chain) (inner : List Entry) (line : Line) (events : List Event) (reply : Reply) (new : Chain) → Holds old → Behaves old inner line events reply new → Holds new
+  pub behaves_hold : (old : Chain) (inner : List Entry) (line : Line) (events : List Event) (reply : Reply) (new : Chain) → Holds old → Behaves old inner line events reply new
+      → Holds new
   behaves_hold old inner Drain events reply new h b = drains_hold (drain_refusal old) old inner reply new h b.1
   behaves_hold old inner End events reply new h b = subst Holds (sym b.3) h
   behaves_hold old inner line events reply new h b = step_holds old line events reply new h b.1

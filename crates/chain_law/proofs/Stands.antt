@@ -19,7 +19,7 @@ use Rattle.rlc_law.specs.Sides.{Sides, Epochs, SidesFit}
 use Rattle.node_model.specs.Names.{NodeName, is_node, owner}
 use Rattle.node_model.specs.State.{PortSide, Node, side_at, entity_of}
 use Rattle.chain_law.specs.Entities.{port_size, port_settings}
-use Rattle.chain_law.proofs.Names.{cases_node, cases_port, cases_owner, owner_side, node_refl, node_apart}
+use Rattle.node_model.proofs.Names.{cases_node, cases_port, cases_owner, owner_side, node_refl, node_apart}
 use Rattle.chain_law.proofs.Counting.{is_grant, moves_same, air_more, air_less, air_long}
 use Rattle.chain_law.specs.Foundations.{RlcLaws}
 
@@ -63,7 +63,8 @@ size_shown None s e = absurd (none-some (shown s) e)
 size_shown (Some was) s e = (was, refl, sym (ap (λ (x : Shown). x.size) (same_Some (shown was) (shown s) e)))
 
 -- sides of which the same is said stand alike
-pub stands_same : {t : Contents} {view : View} {limit : Limits} {air : List (Option Pdu)} (new : View) → ((side : Side) (name : PortName) → option_map shown (new (owner side name) name) ≡ option_map shown (view (owner side name) name))
+pub stands_same : {t : Contents} {view : View} {limit : Limits} {air : List (Option Pdu)} (new : View)
+    → ((side : Side) (name : PortName) → option_map shown (new (owner side name) name) ≡ option_map shown (view (owner side name) name))
     → Stands t view limit air → Stands t new limit air
 stands_same {t} {view} {limit} {air} new same s = record {
   ports = s.ports;
@@ -84,10 +85,12 @@ stands_same {t} {view} {limit} {air} new same s = record {
 }
   where
     was : (side : Side) (name : PortName) → sides_of view side name ≡ sides_of new side name
-    was side name = sym (entity_shown (view (owner side name) name)) ∙ ap (option_and_then (λ (x : Shown). x.entity)) (sym (same side name)) ∙ entity_shown (new (owner side name) name)
+    was side name = sym (entity_shown (view (owner side name) name)) ∙ ap (option_and_then (λ (x : Shown). x.entity)) (sym (same side name))
+        ∙ entity_shown (new (owner side name) name)
 
 -- a PDU goes off the air
-pub stands_off : (l : RlcLaws) {t : Contents} {view : View} {limit : Limits} {air : List (Option Pdu)} (ticket : ℕ) → Stands t view limit air → Stands t view limit (off_air air ticket)
+pub stands_off : (l : RlcLaws) {t : Contents} {view : View} {limit : Limits} {air : List (Option Pdu)} (ticket : ℕ) → Stands t view limit air
+    → Stands t view limit (off_air air ticket)
 stands_off l {air = air} ticket s = record {
   ports = s.ports;
   epochs = s.epochs;
@@ -99,19 +102,42 @@ stands_off l {air = air} ticket s = record {
   sizes = s.sizes;
 }
 
--- an entity of a port's side is called
-module _ (l : RlcLaws) {t : Contents} {limit : Limits} {air : List (Option Pdu)} {view : View} (s : Stands t view limit air) (side : Side) (name : PortName) (was now : PortSide) (entity : Entity) (tx : Tx) (rx : Rx)
-    (there : view (owner side name) name ≡ Some was) (is_open : was.entity ≡ Some entity) (same_size : now.size ≡ was.size) (its_entity : now.entity ≡ Some (record entity { tx = tx; rx = rx }))
-    (new : View) (change : Changes view (owner side name) name (Some now) new) (port : Port) (here : s.ports name entity.epoch ≡ Some port) (way : Way) (event : Event) (behind : Port) (m : MovesSide port side way event tx rx behind) where
-  side_changes : Changes (sides_of view) side name (Some (record entity { tx = tx; rx = rx })) (sides_of new)
-  side_changes = record {
-    here = ap (option_and_then entity_of) change.here ∙ its_entity;
+-- one side of a port changes, but for its size
+module _ {t : Contents} {limit : Limits} {air : List (Option Pdu)} {view : View} (s : Stands t view limit air) (side : Side) (name : PortName) (was now : PortSide)
+    (there : view (owner side name) name ≡ Some was) (same_size : now.size ≡ was.size)
+    (new : View) (change : Changes view (owner side name) name (Some now) new) where
+  pub entity_changes : Changes (sides_of view) side name now.entity (sides_of new)
+  entity_changes = record {
+    here = ap (option_and_then entity_of) change.here;
     others = λ at q ne. ap (option_and_then entity_of) (change.others (owner at q) q (λ same. ne (owner_side at side q (same.0 ∙ sym (ap (owner side) same.1)), same.1)));
   }
 
+  pub sizes_stay : (at : Side) (q : PortName) (x : PortSide) → new (owner at q) q ≡ Some x → x.size ≡ port_size t q
+  sizes_stay at q x is = elim (cases_port q name) [
+    | inr ne ↦ s.sizes at q x (sym (change.others (owner at q) q (λ same. ne same.1)) ∙ is)
+    | inl same ↦ elim (cases_node (owner at q) (owner side name)) [
+      | inr ne ↦ s.sizes at q x (sym (change.others (owner at q) q (λ same. ne same.0)) ∙ is)
+      | inl one ↦
+          let now_is : now ≡ x = same_Some now x (sym change.here ∙ ap (λ (y : NodeName). new y name) (sym one) ∙ ap (new (owner at q)) (sym same) ∙ is) in
+          ap (λ (x : PortSide). x.size) (sym now_is) ∙ same_size ∙ s.sizes side name was there ∙ ap (port_size t) (sym same)
+    ]
+  ]
+
+-- an entity of a port's side is called
+module _ (l : RlcLaws) {t : Contents} {limit : Limits} {air : List (Option Pdu)} {view : View} (s : Stands t view limit air) (side : Side) (name : PortName) (was now : PortSide)
+    (entity : Entity) (tx : Tx) (rx : Rx)
+    (there : view (owner side name) name ≡ Some was) (is_open : was.entity ≡ Some entity) (same_size : now.size ≡ was.size)
+    (its_entity : now.entity ≡ Some (record entity { tx = tx; rx = rx }))
+    (new : View) (change : Changes view (owner side name) name (Some now) new) (port : Port) (here : s.ports name entity.epoch ≡ Some port) (way : Way) (event : Event)
+    (behind : Port) (m : MovesSide port side way event tx rx behind) where
+  side_changes : Changes (sides_of view) side name (Some (record entity { tx = tx; rx = rx })) (sides_of new)
+  side_changes = subst (λ (e : Option Entity). Changes (sides_of view) side name e (sides_of new)) its_entity (entity_changes s side name was now there same_size new change)
+
   called : (new_ports : Ports) × Changes s.ports name entity.epoch (Some behind) new_ports × SidesFit (port_settings t) new_ports s.epochs (sides_of new) × PortsFit new_ports air
-      × ((status : Bool) (number : ℕ) (bytes : List ℕ) → HasMade behind (way_from side) status number bytes → PortsFit new_ports (air ++ Some (sent_from name side entity.epoch status number bytes) ∷ []))
-  called = l.call_fits (port_settings t) s.ports s.epochs (sides_of view) air s.fits s.sides side name entity port (ap (option_and_then entity_of) there ∙ is_open) here way event tx rx behind m (sides_of new) side_changes
+      × ((status : Bool) (number : ℕ) (bytes : List ℕ) → HasMade behind (way_from side) status number bytes
+      → PortsFit new_ports (air ++ Some (sent_from name side entity.epoch status number bytes) ∷ []))
+  called = l.call_fits (port_settings t) s.ports s.epochs (sides_of view) air s.fits s.sides side name entity port
+      (ap (option_and_then entity_of) there ∙ is_open) here way event tx rx behind m (sides_of new) side_changes
 
   -- a port behind the call is the one that moved, or is as before
   port_was : (q : PortName) (e : ℕ) (p : Port) → called.0 q e ≡ Some p → ((q ≡ name) × (e ≡ entity.epoch) × (p ≡ behind)) ⊎ (s.ports q e ≡ Some p)
@@ -132,21 +158,11 @@ module _ (l : RlcLaws) {t : Contents} {limit : Limits} {air : List (Option Pdu)}
     ]
   ]
 
-  few_more : (n : ℕ) → length air ≤ n → ((w : Way) → length (hop_of behind w).pdus ≤ n) → (q : PortName) (e : ℕ) (p : Port) (w : Way) → called.0 q e ≡ Some p → length (hop_of p w).pdus ≤ n
+  few_more : (n : ℕ) → length air ≤ n → ((w : Way) → length (hop_of behind w).pdus ≤ n) → (q : PortName) (e : ℕ) (p : Port) (w : Way) → called.0 q e ≡ Some p
+      → length (hop_of p w).pdus ≤ n
   few_more n le most q e p w is = elim (port_was q e p is) [
     | inl this ↦ subst (λ (p : Port). length (hop_of p w).pdus ≤ n) (sym this.2) (most w)
     | inr old ↦ omega (arith, le, s.few q e p w old)
-  ]
-
-  sizes_more : (at : Side) (q : PortName) (x : PortSide) → new (owner at q) q ≡ Some x → x.size ≡ port_size t q
-  sizes_more at q x is = elim (cases_port q name) [
-    | inr ne ↦ s.sizes at q x (sym (change.others (owner at q) q (λ same. ne same.1)) ∙ is)
-    | inl same ↦ elim (cases_node (owner at q) (owner side name)) [
-      | inr ne ↦ s.sizes at q x (sym (change.others (owner at q) q (λ same. ne same.0)) ∙ is)
-      | inl one ↦
-          let now_is : now ≡ x = same_Some now x (sym change.here ∙ ap (λ (y : NodeName). new y name) (sym one) ∙ ap (new (owner at q)) (sym same) ∙ is) in
-          ap (λ (x : PortSide). x.size) (sym now_is) ∙ same_size ∙ s.sizes side name was there ∙ ap (port_size t) (sym same)
-    ]
   ]
 
   -- it sends no data PDU
@@ -159,11 +175,12 @@ module _ (l : RlcLaws) {t : Contents} {limit : Limits} {air : List (Option Pdu)}
     sides = called.2;
     few = few_more (length air) (omega arith) (λ w. omega (arith, moves_same way m.moves quiet w, s.few name entity.epoch port w here));
     within = s.within;
-    sizes = sizes_more;
+    sizes = sizes_stay s side name was now there same_size new change;
   }
 
   -- it sends a PDU, which goes on the air
-  pub stands_sent : ((w : Way) → length (hop_of behind w).pdus ≤ length (hop_of port w).pdus + 1) → (status : Bool) (number : ℕ) (bytes : List ℕ) → HasMade behind (way_from side) status number bytes
+  pub stands_sent : ((w : Way) → length (hop_of behind w).pdus ≤ length (hop_of port w).pdus + 1) → (status : Bool) (number : ℕ) (bytes : List ℕ)
+      → HasMade behind (way_from side) status number bytes
       → Stands t new limit (air ++ Some (sent_from name side entity.epoch status number bytes) ∷ [])
   stands_sent most status number bytes made = record {
     ports = called.0;
@@ -174,9 +191,10 @@ module _ (l : RlcLaws) {t : Contents} {limit : Limits} {air : List (Option Pdu)}
       | inr this ↦ still_there pdu.port pdu.epoch (port, ap (λ (pdu : Pdu). s.ports pdu.port pdu.epoch) this ∙ here)
     ];
     sides = called.2;
-    few = few_more (length (air ++ Some (sent_from name side entity.epoch status number bytes) ∷ [])) (omega (arith, longer)) (λ w. omega (arith, longer, most w, s.few name entity.epoch port w here));
+    few = few_more (length (air ++ Some (sent_from name side entity.epoch status number bytes) ∷ [])) (omega (arith, longer))
+        (λ w. omega (arith, longer, most w, s.few name entity.epoch port w here));
     within = s.within;
-    sizes = sizes_more;
+    sizes = sizes_stay s side name was now there same_size new change;
   }
     where
       longer : length (air ++ Some (sent_from name side entity.epoch status number bytes) ∷ []) ≡ length air + 1
@@ -188,7 +206,8 @@ pub data Moved (port : Port) (side : Side) (tx : Tx) (rx : Rx) : Type 0 where
   moves : (way : Way) (event : Event) (behind : Port) → is_grant event ≡ false → MovesSide port side way event tx rx behind → Moved port side tx rx
 
 -- a side that has the transmitter and the receiver of another has the same
-same_entity : (port : Port) (side : Side) (entity : Entity) (tx : Tx) (rx : Rx) → IsSide port side entity.tx entity.rx → IsSide port side tx rx → record entity { tx = tx; rx = rx } ≡ entity
+same_entity : (port : Port) (side : Side) (entity : Entity) (tx : Tx) (rx : Rx) → IsSide port side entity.tx entity.rx → IsSide port side tx rx
+    → record entity { tx = tx; rx = rx } ≡ entity
 same_entity port side entity tx rx was is =
     ap (λ (tx : Tx). record entity { tx = tx; rx = rx }) (is.its_tx ∙ sym was.its_tx) ∙ ap (λ (rx : Rx). record entity { rx = rx }) (is.its_rx ∙ sym was.its_rx)
 
@@ -201,7 +220,8 @@ pub record SideChanges (n : Node) (port : PortName) (s : PortSide) (m : Node) : 
 pub data NodeMoves : Node → Node → Type 0 where
   rests : {n m : Node} → ((q : PortName) → side_at m q ≡ side_at n q) → NodeMoves n m
   changes : {n m : Node} (port : PortName) (was now : PortSide) → side_at n port ≡ Some was → shown now ≡ shown was → SideChanges n port now m → NodeMoves n m
-  calls : {n m : Node} (port : PortName) (was now : PortSide) (entity : Entity) (tx : Tx) (rx : Rx) → side_at n port ≡ Some was → was.entity ≡ Some entity → now.size ≡ was.size → now.entity ≡ Some (record entity { tx = tx; rx = rx })
+  calls : {n m : Node} (port : PortName) (was now : PortSide) (entity : Entity) (tx : Tx) (rx : Rx) → side_at n port ≡ Some was → was.entity ≡ Some entity → now.size ≡ was.size
+      → now.entity ≡ Some (record entity { tx = tx; rx = rx })
       → ((side : Side) (at : Port) → IsSide at side entity.tx entity.rx → Moved at side tx rx) → SideChanges n port now m → NodeMoves n m
   follow : {n mid m : Node} → NodeMoves n mid → NodeMoves mid m → NodeMoves n m
 
@@ -216,10 +236,12 @@ pub put_other : (view : View) (x : NodeName) (sides : PortName → Option PortSi
 put_other view x sides y q ne = cond-false (is_node x y) (sides q) (view y q) (node_apart x y (λ e. ne (sym e)))
 
 -- what is said of a view's sides is the same once a node's sides are these, where it is at each that the node has by its name
-pub put_alike : (view : View) (x : NodeName) (old new : PortName → Option PortSide) → ((q : PortName) → ((side : Side) × (owner side q ≡ x)) → option_map shown (new q) ≡ option_map shown (old q))
+pub put_alike : (view : View) (x : NodeName) (old new : PortName → Option PortSide)
+    → ((q : PortName) → ((side : Side) × (owner side q ≡ x)) → option_map shown (new q) ≡ option_map shown (old q))
     → (side : Side) (name : PortName) → option_map shown (put view x new (owner side name) name) ≡ option_map shown (put view x old (owner side name) name)
 put_alike view x old new same side name = elim (cases_node (owner side name) x) [
-  | inl here ↦ ap (option_map shown) (put_here view x new (owner side name) name here) ∙ same name (side, here) ∙ ap (option_map shown) (sym (put_here view x old (owner side name) name here))
+  | inl here ↦ ap (option_map shown) (put_here view x new (owner side name) name here) ∙ same name (side, here)
+      ∙ ap (option_map shown) (sym (put_here view x old (owner side name) name here))
   | inr there ↦ ap (option_map shown) (put_other view x new (owner side name) name there ∙ sym (put_other view x old (owner side name) name there))
 ]
 
@@ -229,10 +251,12 @@ window sees rest n q = cond (sees q) (side_at n q) (rest q)
 
 -- of a window on a node's sides: the same is said of what is seen behind a change as of what is seen of the node
 module _ (sees : PortName → Bool) (rest : PortName → Option PortSide) (n m : Node) where
-  pub window_shown : (q : PortName) → option_map shown (side_at m q) ≡ option_map shown (side_at n q) → option_map shown (window sees rest m q) ≡ option_map shown (window sees rest n q)
+  pub window_shown : (q : PortName) → option_map shown (side_at m q) ≡ option_map shown (side_at n q)
+      → option_map shown (window sees rest m q) ≡ option_map shown (window sees rest n q)
   window_shown q = by (sees q)
     where
-      by : (b : Bool) → option_map shown (side_at m q) ≡ option_map shown (side_at n q) → option_map shown (cond b (side_at m q) (rest q)) ≡ option_map shown (cond b (side_at n q) (rest q))
+      by : (b : Bool) → option_map shown (side_at m q) ≡ option_map shown (side_at n q)
+          → option_map shown (cond b (side_at m q) (rest q)) ≡ option_map shown (cond b (side_at n q) (rest q))
       by true e = e
       by false e = refl
 
@@ -243,18 +267,22 @@ module _ (sees : PortName → Bool) (rest : PortName → Option PortSide) (n m :
     here = put_here view x (window sees rest m) (owner side name) name own ∙ cond-true (sees name) (side_at m name) (rest name) seen ∙ sc.here;
     others = λ y q ne. elim (cases_node y x) [
       | inr other ↦ put_other view x (window sees rest m) y q other ∙ sym (put_other view x (window sees rest n) y q other)
-      | inl same ↦ put_here view x (window sees rest m) y q same ∙ ap (λ (o : Option PortSide). cond (sees q) o (rest q)) (sc.others q (λ port. ne (same ∙ sym own, port))) ∙ sym (put_here view x (window sees rest n) y q same)
+      | inl same ↦ put_here view x (window sees rest m) y q same ∙ ap (λ (o : Option PortSide). cond (sees q) o (rest q)) (sc.others q (λ port. ne (same ∙ sym own, port)))
+          ∙ sym (put_here view x (window sees rest n) y q same)
     ];
   }
 
 module _ (l : RlcLaws) {t : Contents} {limit : Limits} {air : List (Option Pdu)} (view : View) (x : NodeName) (sees : PortName → Bool) (rest : PortName → Option PortSide) where
   -- moves of a node's sides keep what holds of those that are seen
   pub node_stands : {n m : Node} → NodeMoves n m → Stands t (put view x (window sees rest n)) limit air → Stands t (put view x (window sees rest m)) limit air
-  node_stands {n} {m} (rests same) s = stands_same _ (put_alike view x (window sees rest n) (window sees rest m) (λ q own. window_shown sees rest n m q (ap (option_map shown) (same q)))) s
-  node_stands {n} {m} (changes port was now there same sc) s = stands_same _ (put_alike view x (window sees rest n) (window sees rest m) (λ q own. window_shown sees rest n m q (alike q (cases_port q port)))) s
+  node_stands {n} {m} (rests same) s = stands_same _
+      (put_alike view x (window sees rest n) (window sees rest m) (λ q own. window_shown sees rest n m q (ap (option_map shown) (same q)))) s
+  node_stands {n} {m} (changes port was now there same sc) s = stands_same _
+      (put_alike view x (window sees rest n) (window sees rest m) (λ q own. window_shown sees rest n m q (alike q (cases_port q port)))) s
     where
       alike : (q : PortName) → (q ≡ port) ⊎ (q ≡ port → ⊥) → option_map shown (side_at m q) ≡ option_map shown (side_at n q)
-      alike q (inl e) = ap (λ (q : PortName). option_map shown (side_at m q)) e ∙ ap (option_map shown) sc.here ∙ ap (λ (x : Shown). Some x) same ∙ ap (option_map shown) (sym there) ∙ ap (λ (q : PortName). option_map shown (side_at n q)) (sym e)
+      alike q (inl e) = ap (λ (q : PortName). option_map shown (side_at m q)) e ∙ ap (option_map shown) sc.here ∙ ap (λ (x : Shown). Some x) same
+          ∙ ap (option_map shown) (sym there) ∙ ap (λ (q : PortName). option_map shown (side_at n q)) (sym e)
       alike q (inr ne) = ap (option_map shown) (sc.others q ne)
   node_stands {n} {m} (calls port was now entity tx rx there is_open same_size its_entity mover sc) s = by (cases_owner x port) (cases_Bool (sees port))
     where
@@ -264,18 +292,24 @@ module _ (l : RlcLaws) {t : Contents} {limit : Limits} {air : List (Option Pdu)}
       in_view : (side : Side) → owner side port ≡ x → sees port ≡ true → put view x (window sees rest n) (owner side port) port ≡ Some was
       in_view side own seen = put_here view x (window sees rest n) (owner side port) port own ∙ cond-true (sees port) (side_at n port) (rest port) seen ∙ there
 
-      moved : (side : Side) → owner side port ≡ x → sees port ≡ true → (p : Port) (here : s.ports port entity.epoch ≡ Some p) → IsSide p side entity.tx entity.rx → Moved p side tx rx → Stands t (put view x (window sees rest m)) limit air
-      moved side own seen p here before (stays is) = stands_same _ (put_alike view x (window sees rest n) (window sees rest m) (λ q its. window_shown sees rest n m q (alike q (cases_port q port)))) s
+      moved : (side : Side) → owner side port ≡ x → sees port ≡ true → (p : Port) (here : s.ports port entity.epoch ≡ Some p) → IsSide p side entity.tx entity.rx
+          → Moved p side tx rx → Stands t (put view x (window sees rest m)) limit air
+      moved side own seen p here before (stays is) = stands_same _
+          (put_alike view x (window sees rest n) (window sees rest m) (λ q its. window_shown sees rest n m q (alike q (cases_port q port)))) s
         where
           alike : (q : PortName) → (q ≡ port) ⊎ (q ≡ port → ⊥) → option_map shown (side_at m q) ≡ option_map shown (side_at n q)
           alike q (inr ne) = elsewhere q ne
           alike q (inl e) = ap (λ (q : PortName). option_map shown (side_at m q)) e ∙ ap (option_map shown) sc.here
-              ∙ ap (λ (e : Option Entity). Some (record { entity = e; size = now.size })) (its_entity ∙ ap (λ (e : Entity). Some e) (same_entity p side entity tx rx before is) ∙ sym is_open)
-              ∙ ap (λ (z : SnSize). Some (record { entity = was.entity; size = z })) same_size ∙ ap (option_map shown) (sym there) ∙ ap (λ (q : PortName). option_map shown (side_at n q)) (sym e)
+              ∙ ap (λ (e : Option Entity). Some (record { entity = e; size = now.size }))
+              (its_entity ∙ ap (λ (e : Entity). Some e) (same_entity p side entity tx rx before is) ∙ sym is_open)
+              ∙ ap (λ (z : SnSize). Some (record { entity = was.entity; size = z })) same_size ∙ ap (option_map shown) (sym there)
+              ∙ ap (λ (q : PortName). option_map shown (side_at n q)) (sym e)
       moved side own seen p here before (moves way event behind quiet ms) =
-          stands_called l s side port was now entity tx rx (in_view side own seen) is_open same_size its_entity (put view x (window sees rest m)) (put_changes sees rest n m view x side port now own seen sc) p here way event behind ms quiet
+          stands_called l s side port was now entity tx rx (in_view side own seen) is_open same_size its_entity (put view x (window sees rest m))
+          (put_changes sees rest n m view x side port now own seen sc) p here way event behind ms quiet
 
-      by : ((side : Side) × (owner side port ≡ x)) ⊎ ((side : Side) → owner side port ≡ x → ⊥) → (sees port ≡ true) ⊎ (sees port ≡ false) → Stands t (put view x (window sees rest m)) limit air
+      by : ((side : Side) × (owner side port ≡ x)) ⊎ ((side : Side) → owner side port ≡ x → ⊥) → (sees port ≡ true) ⊎ (sees port ≡ false)
+          → Stands t (put view x (window sees rest m)) limit air
       by (inl own) (inl seen) =
           let at = s.sides.open_port own.0 port entity (ap (option_and_then entity_of) (in_view own.0 own.1 seen) ∙ is_open) in
           moved own.0 own.1 seen at.0 at.1 at.2 (mover own.0 at.0 at.2)
@@ -286,7 +320,8 @@ module _ (l : RlcLaws) {t : Contents} {limit : Limits} {air : List (Option Pdu)}
           same q (inl e) =
               let unseen : sees q ≡ false = ap sees e ∙ hidden in
               ap (option_map shown) (cond-false (sees q) (side_at m q) (rest q) unseen ∙ sym (cond-false (sees q) (side_at n q) (rest q) unseen))
-      by (inr none) seen = stands_same _ (put_alike view x (window sees rest n) (window sees rest m) (λ q own. window_shown sees rest n m q (elsewhere q (λ e. none own.0 (ap (owner own.0) (sym e) ∙ own.1))))) s
+      by (inr none) seen = stands_same _
+          (put_alike view x (window sees rest n) (window sees rest m) (λ q own. window_shown sees rest n m q (elsewhere q (λ e. none own.0 (ap (owner own.0) (sym e) ∙ own.1))))) s
   node_stands (follow first second) s = node_stands second (node_stands first s)
 
 -- all sides of a node are seen

@@ -63,7 +63,8 @@ pub record RlcFits (c : Chain) : Type 0 where
   pub opened : (ticket : ℕ) (pdu : Pdu) → on_air c.air ticket ≡ Some pdu → (port : Port) × (ports pdu.port pdu.epoch ≡ Some port)
   pub sides : SidesFit (port_settings c.tables) ports epochs (entity_on c)
   pub few : (name : PortName) (epoch : ℕ) (port : Port) (way : Way) → ports name epoch ≡ Some port → length (hop_of port way).pdus ≤ length c.air
-  pub fresh : (remote : Remote) (plan : Plan) → plan_at c remote ≡ Some plan → (side : Side) (name : PortName) → is_of remote name ≡ true → epochs side name ≤ next_epoch plan (kind_of (owner side name))
+  pub fresh : (remote : Remote) (plan : Plan) → plan_at c remote ≡ Some plan → (side : Side) (name : PortName) → is_of remote name ≡ true
+      → epochs side name ≤ next_epoch plan (kind_of (owner side name))
 
 -- RLC can take the SDU: it has 1 to 9,005 bytes
 pub record IsSdu (sdu : List ℕ) : Type 0 where

@@ -1,3 +1,4 @@
 pub mod Foundations
 pub mod Entities
 pub mod Laws
+pub mod Calls

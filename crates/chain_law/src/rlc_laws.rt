@@ -3,8 +3,9 @@ ghost use Rattle.chain_law.specs.Laws.{EntitiesAreThoseOfPorts, NumbersStayWithi
 
 use crate::foundations::laws_of_ports;
 
-/// A law: behind each run there is a port for each name and epoch that was opened, and it can be reached; each open entity is
-/// its side, each PDU on the air is one that it has made, and a side opens only in an epoch to which it had not come.
+/// A law: of each chain that comes up in a run there is a port for each name and epoch that was opened, and it can be reached;
+/// each open entity is its side, each PDU on the air is one that it has made, and a side opens only in an epoch to which it had
+/// not come. It holds with every line, behind each line of a drain, and before the nodes feed.
 pub fn entities_are_those_of_ports()
     ensures { EntitiesAreThoseOfPorts }
 {
