@@ -4,7 +4,7 @@ mod receiver;
 mod sending;
 mod transmitter;
 
-use link_base::{Drb, Expired, Key, LocalId, Remote, SnSize, Tag, Way, copy_bytes};
+use link_base::{Drb, Expired, Key, LocalId, Memory, Remote, SnSize, Tag, Way, copy_bytes};
 use rlc_am_rx::{AmRx, Made};
 use rlc_am_tx::{AmTx, GiveFault, TxGrant};
 use rlc_hop::{HopGrant, HopHeard, hop_grant, hop_hear};
@@ -23,6 +23,20 @@ const TAG: Tag = Tag {
     count: None,
     ue: Some(LocalId(5)),
 };
+
+/// What a side shows of its transmitter and of its receiver.
+#[derive(Clone, Copy, Debug, PartialEq, Eq)]
+struct Shown {
+    next: u64,
+    next_ack: u64,
+    unconfirmed: u64,
+    waits: bool,
+    poll_running: bool,
+    rx_next: u64,
+    highest_status: u64,
+    triggered: bool,
+    reasm_running: bool,
+}
 
 /// A transmitter and a receiver, to be called by words. Each method says what its call answers, and no more, so that the
 /// tests are proved soon.
@@ -47,9 +61,9 @@ impl Hop {
         let (word, argument) = call.split_once(' ').unwrap_or((call, ""));
         match word {
             "give" => self.give(rt, argument),
-            "send" => self.send(argument.parse()?),
-            "make" => self.make(argument.parse()?),
-            "grant" => self.grant(argument.parse()?),
+            "send" => self.send(rt, argument.parse()?),
+            "make" => self.make(rt, argument.parse()?),
+            "grant" => self.grant(rt, argument.parse()?),
             "hear" => self.hear(rt, argument),
             "bears" => self.bears(argument.parse()?),
             "poll" => expired_text(self.alloc, self.tx.expire_poll()),
@@ -61,12 +75,44 @@ impl Hop {
         }
     }
 
+    fn shown(&self) -> Shown {
+        Shown {
+            next: self.tx.next(),
+            next_ack: self.tx.next_ack(),
+            unconfirmed: self.tx.unconfirmed(),
+            waits: self.tx.waits(),
+            poll_running: self.tx.poll_running(),
+            rx_next: self.rx.next(),
+            highest_status: self.rx.highest_status(),
+            triggered: self.rx.triggered(),
+            reasm_running: self.rx.reasm_running(),
+        }
+    }
+
+    // A call was refused memory, so nothing has changed. It is made once more, and the rows behind it show that it went as
+    // if it had never been refused.
+    fn expect_unchanged(&self, rt: &impl Abort, before: Shown) {
+        assert!(rt;
+            self.shown() == before,
+            "a call that was refused memory changed something"
+        );
+    }
+
     /// An SDU is given to the transmitter.
     fn give(&mut self, rt: &impl Abort, digits: &str) -> Result<String, Fail> {
         let bytes = hex::decode(self.alloc, digits.as_bytes())?;
         let sdu = copy_bytes(self.alloc, &bytes)?;
         assert!(rt; !sdu.is_empty() && sdu.len() <= 9005 && self.tx.next() < 1 << 62);
-        match self.tx.give(TAG, sdu) {
+        let before = self.shown();
+        let given = match self.tx.give(TAG, sdu) {
+            Err(GiveFault::Memory(back)) => {
+                self.expect_unchanged(rt, before);
+                assert!(rt; !back.is_empty() && back.len() <= 9005 && self.tx.next() < 1 << 62);
+                self.tx.give(TAG, back)
+            }
+            given => given,
+        };
+        match given {
             Ok(number) => Ok(format!(in self.alloc; "{number}")?),
             Err(GiveFault::NoRoom(back)) => {
                 let digits = hex::encode(self.alloc, back.as_slice())?;
@@ -77,8 +123,16 @@ impl Hop {
     }
 
     /// The transmitter sends a PDU of at most so many octets.
-    fn send(&mut self, n: u32) -> Result<String, Fail> {
-        match self.tx.grant(n)? {
+    fn send(&mut self, rt: &impl Abort, n: u32) -> Result<String, Fail> {
+        let before = self.shown();
+        let granted = match self.tx.grant(n) {
+            Ok(granted) => granted,
+            Err(Memory) => {
+                self.expect_unchanged(rt, before);
+                self.tx.grant(n)?
+            }
+        };
+        match granted {
             TxGrant::Sent { number, bytes } => {
                 let digits = hex::encode(self.alloc, bytes.as_slice())?;
                 Ok(format!(in self.alloc; "{number} {digits}")?)
@@ -89,12 +143,21 @@ impl Hop {
     }
 
     /// The receiver makes a STATUS of at most so many octets, if one is due.
-    fn make(&mut self, n: u32) -> Result<String, Fail> {
+    fn make(&mut self, rt: &impl Abort, n: u32) -> Result<String, Fail> {
         if !self.rx.status_due() {
             return Ok(String::from_str(self.alloc, "not due")?);
         }
         let size = self.rx.size();
-        match self.rx.make_status(n)? {
+        let before = self.shown();
+        let made = match self.rx.make_status(n) {
+            Ok(made) => made,
+            Err(Memory) => {
+                self.expect_unchanged(rt, before);
+                assert!(rt; self.rx.status_due());
+                self.rx.make_status(n)?
+            }
+        };
+        match made {
             Made::Full { status, ack } => {
                 let octets = encode_status(self.alloc, size, &status)?;
                 let digits = hex::encode(self.alloc, octets.as_slice())?;
@@ -105,8 +168,16 @@ impl Hop {
     }
 
     /// A PDU of at most so many octets is sent.
-    fn grant(&mut self, n: u32) -> Result<String, Fail> {
-        match hop_grant(self.alloc, &mut self.tx, &mut self.rx, n)? {
+    fn grant(&mut self, rt: &impl Abort, n: u32) -> Result<String, Fail> {
+        let before = self.shown();
+        let granted = match hop_grant(self.alloc, &mut self.tx, &mut self.rx, n) {
+            Ok(granted) => granted,
+            Err(Memory) => {
+                self.expect_unchanged(rt, before);
+                hop_grant(self.alloc, &mut self.tx, &mut self.rx, n)?
+            }
+        };
+        match granted {
             HopGrant::Sent {
                 status,
                 number,
@@ -125,7 +196,16 @@ impl Hop {
     fn hear(&mut self, rt: &impl Abort, digits: &str) -> Result<String, Fail> {
         let octets = hex::decode(self.alloc, digits.as_bytes())?;
         assert!(rt; self.tx.next() < 1 << 62 && self.rx.next() <= 1 << 62);
-        match hop_hear(self.alloc, &mut self.tx, &mut self.rx, &octets)? {
+        let before = self.shown();
+        let heard = match hop_hear(self.alloc, &mut self.tx, &mut self.rx, &octets) {
+            Ok(heard) => heard,
+            Err(Memory) => {
+                self.expect_unchanged(rt, before);
+                assert!(rt; self.tx.next() < 1 << 62 && self.rx.next() <= 1 << 62);
+                hop_hear(self.alloc, &mut self.tx, &mut self.rx, &octets)?
+            }
+        };
+        match heard {
             HopHeard::Amd(heard) => self.heard(heard),
             HopHeard::Status(heard) => self.status_heard(heard),
             HopHeard::BadAmd(fault) => Ok(format!(in self.alloc; "bad {fault}")?),

@@ -56,6 +56,30 @@ hear 0003800010|acks 2 marks 0
 hear 000380000202|acks 0 marks 0
 send 100|1 c001800162";
 
+// A STATUS names a part of number 0, and by a range number 1 from a byte on and number 2 up to a byte; then another names
+// three parts of number 0.
+const PARTS_AND_RANGES: &str = "\
+give 6162636465|0
+give 666768696a|1
+give 6b6c6d6e6f|2
+give 7071727374|3
+send 5|0 9000616263
+send 100|0 a00000036465
+send 100|1 8001666768696a
+send 100|2 80026b6c6d6e6f
+send 100|3 c0037071727374
+hear 000480000c0001000200160002000302|acks 1 marks 0
+transmitter|4 0 3 2044 false
+send 100|0 b00000016263
+send 100|1 a001000268696a
+send 6|2 d0026b6c6d6e
+hear 000180000c00000000000c0002000200040004ffff|acks 0 marks 0
+send 100|0 900061
+send 100|0 b000000263
+send 100|0 e000000465
+hear 000400|acks 3 marks 0
+transmitter|4 4 0 2048 false";
+
 #[test]
 fn sends_and_hears_status_pdus(rt: HostRuntime) -> Result<(), Fail> {
     expect_tables(
@@ -67,6 +91,7 @@ fn sends_and_hears_status_pdus(rt: HostRuntime) -> Result<(), Fail> {
             A_LOST_SDU,
             SEGMENTS,
             STATUS_PDUS_IN_REVERSE,
+            PARTS_AND_RANGES,
         ],
     )
 }
