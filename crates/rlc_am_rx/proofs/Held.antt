@@ -1,20 +1,25 @@
 -- What is held of an SDU, read from the fields.
-use Rattle.std.proofs.Common.{◌≡◌, ◌≢◌, ◌⊎◌, inl, inr, ℕ, zero, suc, ◌+◌, ◌-◌, ◌<◌, ◌≤◌, Bool, true, false, nat_lt, cond, not, eqb, leb, List, [], ◌∷◌, ◌++◌, length, take, get_or, Option, Some, None, refl, sym, ◌∙◌, ap, arith}
+use Rattle.std.proofs.Common.{◌≡◌, ◌≢◌, ◌⊎◌, ◌↔◌, inl, inr, ℕ, zero, suc, ◌-◌, ◌<◌, ◌≤◌, Bool, true, false, nat_lt, cond, not, eqb, leb, List, [], ◌∷◌, length, take, get_or, Option, Some, None, refl, sym, ◌∙◌, ap, arith}
 use Rattle.std.specs.Bool.{MatchBool}
 use Rattle.std.proofs.lemmas.List.{length-take-le, get_or-take}
 use Rattle.std.proofs.lemmas.Bool.{cases_Bool, both_ways, ltb-true, ltb-false, cases_lt, cases_eq, cases_order, eq-eqb, ne_eqb, le-leb, lt-leb}
 use Rattle.std.proofs.lemmas.Option.{none-some, same_Some}
-use Rattle.byte_spans.specs.Spans.{has, Has, Lacks, HasAll, LacksOne, IsEnd}
+use Rattle.byte_spans.specs.Spans.{has, Has, Lacks, HasAll, LacksOne, IsEmpty, IsFirstRun, IsEnd}
 use Rattle.rlc_pdu.specs.declared.amd.Si.{Si}
 use Rattle.link_base.specs.declared.limits.TheConstants.{LONGEST_RLC_SDU}
 use Rattle.rlc_pdu.specs.Amd.{Amd}
-use Rattle.rlc_model.specs.Pdu.{end_of, is_end, byte_at}
-use Rattle.rlc_model.specs.Rx.{Got, held_at, len_of, HasGap, BringsNothing, IsConflict, IsFull, Covers, Places, first_of}
+use Rattle.rlc_model.specs.Pdu.{end_of, is_end}
+use Rattle.rlc_model.specs.Rx.{Got, held_at, len_of, HasGap, BringsNothing, IsConflict, IsFull, Covers}
 use Rattle.rlc_model.specs.Rx.Got.{Part}
 use Rattle.rlc_model.specs.Rx.IsConflict.{other_length, held_past, past_length, no_last}
 use Rattle.rlc_model.specs.Made.{HoldsNone, HoldsSome}
-use Rattle.rlc_am_rx.specs.Assembly.{Pieces, got_of_pieces, pieces_of, bytes_held, HoldsFrom, LacksFrom, WritesBytes}
+use Rattle.rlc_am_rx.specs.Assembly.{Pieces, got_of_pieces, pieces_of, bytes_held, HoldsFrom, LacksFrom}
 use Rattle.rlc_am_rx.specs.declared.assembly.Assembly.TheInside.{Inside}
+
+-- a test is true exactly where what it tests holds
+pub is_true_where : (b : Bool) (P : Type 0) → MatchBool b P (P → ⊥) → b ≡ true ↔ P
+is_true_where true P is = (λ e. is, λ p. refl)
+is_true_where false P is = (λ e. absurd (both_ways false refl e), λ p. absurd (is p))
 
 -- the byte of a place, where that is held
 abbrev pub byte_held : List ℕ → List Bool → ℕ → Option ℕ
@@ -53,17 +58,30 @@ module _ (g : Got) (bytes : List ℕ) (flags : List Bool) (same : (p : ℕ) → 
   pub below_end : (end : ℕ) → IsEnd flags end → (p : ℕ) → held_at g p ≢ None → p < end
   below_end end ends p some = elim (cases_lt p end) [ inl lt ↦ lt | inr ge ↦ absurd (some (none_here p (ends.above p ge))) ]
 
-  -- a byte is missing before the last byte held exactly where not all places below the end are held
-  pub gap_is : (end : ℕ) → IsEnd flags end → (b : Bool) → MatchBool b (HasAll flags 0 end) (LacksOne flags 0 end)
-      → MatchBool (not b) (HasGap g) (HasGap g → ⊥)
-  gap_is end ends true all = λ h. some_here h.0 (all h.0 (omega arith) (omega (arith, h.2, below_end end ends h.1 h.4))) h.3
-  gap_is end ends false one =
-      let held : Has flags (end - 1) = ends.last (omega (arith, one.2)) in
-      let apart : one.0 ≢ end - 1 = λ e. both_ways (has flags one.0) held_one (ap (λ p. has flags p) e ∙ held) in
-      (one.0, end - 1, omega (arith, apart, one.2), none_here one.0 one.3, some_here (end - 1) held)
+  -- a byte is missing before the last byte held where the first run held does not begin with the first byte
+  pub starts_late : (start stop : ℕ) → IsFirstRun flags start stop → 0 < start → nat_lt 0 start ≡ true ↔ HasGap g
+  starts_late start stop run late = is_true_where (nat_lt 0 start) (HasGap g) (go (nat_lt 0 start) refl)
     where
-      held_one : has flags one.0 ≡ false
-      held_one = one.3
+      go : (b : Bool) → nat_lt 0 start ≡ b → MatchBool b (HasGap g) (HasGap g → ⊥)
+      go true is = (0, start, late, none_here 0 (run.before 0 late), some_here start (run.run start (omega arith) run.some))
+      go false is = absurd (omega (arith, late, ltb-false 0 start is))
+
+  -- and where it does, exactly where the run ends before the last byte held
+  pub ends_early : (start stop end : ℕ) → IsFirstRun flags start stop → start ≡ 0 → IsEnd flags end → nat_lt stop end ≡ true ↔ HasGap g
+  ends_early start stop end run first ends = is_true_where (nat_lt stop end) (HasGap g) (go (nat_lt stop end) refl)
+    where
+      go : (b : Bool) → nat_lt stop end ≡ b → MatchBool b (HasGap g) (HasGap g → ⊥)
+      go true is =
+          let early : stop < end = ltb-true stop end is in
+          let held : Has flags (end - 1) = ends.last (omega (arith, early)) in
+          let apart : stop ≢ end - 1 = λ e. both_ways (has flags stop) run.stops (ap (λ p. has flags p) e ∙ held) in
+          (stop, end - 1, omega (arith, early, apart), none_here stop run.stops, some_here (end - 1) held)
+      go false is =
+          let le : end ≤ stop = ltb-false stop end is in
+          λ h. some_here h.0 (run.run h.0 (omega (arith, first)) (omega (arith, le, h.2, below_end end ends h.1 h.4))) h.3
+
+  pub none_late : IsEmpty flags → HasGap g → ⊥
+  none_late empty h = h.4 (none_here h.1 (empty.none h.1))
 
   -- whether something is held
   pub some_held_is : (end : ℕ) → IsEnd flags end → MatchBool (nat_lt 0 end) (HoldsSome g) (HoldsNone g)
@@ -91,9 +109,9 @@ module _ (g : Got) (bytes : List ℕ) (flags : List Bool) (same : (p : ℕ) → 
 
   -- whether a PDU brings nothing new, by whether its places are held
   pub repeat_is : (v : Amd) (b : Bool) (from to : ℕ) → from ≡ v.so → to ≡ end_of v → (is_end v.si ≡ false ⊎ len_of g ≢ None)
-      → MatchBool b (HasAll flags from to) (LacksOne flags from to) → MatchBool b (BringsNothing g v) (BringsNothing g v → ⊥)
-  repeat_is v true from to f t known all = (λ p ge lt. some_here p (all p (omega (arith, ge, f)) (omega (arith, lt, t))), known)
-  repeat_is v false from to f t known one = λ h. h.0 one.0 (omega (arith, one.1, f)) (omega (arith, one.2, t)) (none_here one.0 one.3)
+      → MatchBool b (HasAll flags from to) (LacksOne flags from to) → b ≡ true ↔ BringsNothing g v
+  repeat_is v true from to f t known all = (λ is. (λ p ge lt. some_here p (all p (omega (arith, ge, f)) (omega (arith, lt, t))), known), λ h. refl)
+  repeat_is v false from to f t known one = is_true_where false (BringsNothing g v) (λ h. h.0 one.0 (omega (arith, one.1, f)) (omega (arith, one.2, t)) (none_here one.0 one.3))
 
 -- of an SDU whose length a PDU tells, and isn't known, the PDU brings something new
 pub tells_length : (g : Got) (v : Amd) → is_end v.si ≡ true → len_of g ≡ None → BringsNothing g v → ⊥
@@ -117,19 +135,25 @@ module _ (g : Got) (v : Amd) (clear : is_end v.si ≡ true → LacksFrom g (end_
       elim (cases_Bool (is_end v.si)) [ inl ends ↦ omega (arith, k_is, same ends) | inr inner ↦ omega (arith, k_is, inside inner) ]
   agrees_known l is same inside (no_last inner known) = omega (arith, same_Some (end_of v) l (sym known ∙ is), inside inner)
 
-  pub end_agrees : (l : ℕ) → len_of g ≡ Some l → is_end v.si ≡ true
-      → MatchBool (not (eqb l (end_of v))) (IsConflict g v) (IsConflict g v → ⊥)
-  end_agrees l is ends = elim (cases_eq l (end_of v)) [
+  end_tells : (l : ℕ) → len_of g ≡ Some l → is_end v.si ≡ true → MatchBool (not (eqb l (end_of v))) (IsConflict g v) (IsConflict g v → ⊥)
+  end_tells l is ends = elim (cases_eq l (end_of v)) [
     | inl same ↦ rw (eq-eqb l (end_of v) same) (agrees_known l is (λ e. same) (λ inner. absurd (both_ways (is_end v.si) inner ends)))
     | inr other ↦ rw (ne_eqb l (end_of v) other) (other_length l ends is other)
   ]
 
-  pub inner_agrees : (l : ℕ) → len_of g ≡ Some l → is_end v.si ≡ false → MatchBool (leb l (end_of v)) (IsConflict g v) (IsConflict g v → ⊥)
-  inner_agrees l is inner = elim (cases_order l (end_of v)) [
+  pub end_agrees : (l : ℕ) → len_of g ≡ Some l → is_end v.si ≡ true
+      → not (eqb l (end_of v)) ≡ true ↔ IsConflict g v
+  end_agrees l is ends = is_true_where (not (eqb l (end_of v))) (IsConflict g v) (end_tells l is ends)
+
+  inner_tells : (l : ℕ) → len_of g ≡ Some l → is_end v.si ≡ false → MatchBool (leb l (end_of v)) (IsConflict g v) (IsConflict g v → ⊥)
+  inner_tells l is inner = elim (cases_order l (end_of v)) [
     | inl same ↦ rw (le-leb l (end_of v) (omega (arith, same))) (no_last inner (is ∙ ap (λ (k : ℕ). Some k) same))
     | inr (inl below) ↦ rw (le-leb l (end_of v) (omega arith)) (past_length l is below)
     | inr (inr above) ↦ rw (lt-leb l (end_of v) above) (agrees_known l is (λ e. absurd (both_ways (is_end v.si) inner e)) (λ e. above))
   ]
+
+  pub inner_agrees : (l : ℕ) → len_of g ≡ Some l → is_end v.si ≡ false → leb l (end_of v) ≡ true ↔ IsConflict g v
+  inner_agrees l is inner = is_true_where (leb l (end_of v)) (IsConflict g v) (inner_tells l is inner)
 
 -- the bytes of two places and what follows are the same, where that is so of a place that is held
 same_front : (flag : Bool) (b c : ℕ) (xs ys : List (Option ℕ)) → (flag ≡ true → c ≡ b) → ys ≡ xs

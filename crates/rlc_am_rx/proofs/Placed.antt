@@ -1,8 +1,8 @@
 -- What is held of an SDU once a PDU is placed.
-use Rattle.std.proofs.Common.{◌≡◌, inl, inr, ℕ, ◌+◌, ◌-◌, ◌<◌, ◌≤◌, Bool, true, false, nat_lt, cond, zero, suc, List, [], ◌∷◌, length, map, get_or, slice_get, Option, Some, None, Result, Ok, Err, OnErr, refl, sym, ◌∙◌, ap, subst, arith}
-use Rattle.std.proofs.lemmas.Bool.{cases_Bool, cases_lt, both_ways, cond-true, cond-false, lt-ltb, le-ltb}
+use Rattle.std.proofs.Common.{◌≡◌, inl, inr, ℕ, ◌-◌, ◌<◌, ◌≤◌, Bool, false, nat_lt, cond, zero, suc, List, [], ◌∷◌, length, map, get_or, slice_get, Option, Some, None, Result, Ok, Err, OnErr, refl, sym, ◌∙◌, ap, subst, arith}
+use Rattle.std.proofs.lemmas.Bool.{cases_Bool, cases_lt, cond-true, cond-false, lt-ltb, le-ltb}
 use Rattle.std.proofs.lemmas.Option.{none-some, same_Some, slice_get-get_or, slice_get_past}
-use Rattle.byte_spans.specs.Spans.{has, Has, Lacks, Adds}
+use Rattle.byte_spans.specs.Spans.{has, Has, Adds}
 use Rattle.rlc_pdu.specs.declared.amd.Si.{Si}
 use Rattle.rlc_pdu.specs.declared.amd.Si.TheVariants.{Whole, First, Last, Middle}
 use Rattle.rlc_pdu.specs.Amd.{Amd, IsOffset}

@@ -4,7 +4,7 @@ use Rattle.std.specs.Bool.{MatchBool}
 use Rattle.std.specs.List.Sorted.{IsStrictlyIncreasing}
 use Rattle.std.specs.Option.{is_some}
 use Rattle.std.proofs.Math.Bool.{or-true}
-use Rattle.std.proofs.lemmas.Bool.{true≢false, cases_Bool, cases_eq, cases_lt, or_cases, MatchBool-at_true, MatchBool-at_false}
+use Rattle.std.proofs.lemmas.Bool.{cases_Bool, cases_eq, cases_lt, or_cases, MatchBool-at_true, MatchBool-at_false}
 use Rattle.std.proofs.lemmas.Option.{none-some, same_Some}
 use Rattle.link_base.specs.declared.names.SnSize.{SnSize}
 use Rattle.link_base.specs.declared.names.SnSize.TheVariants.{S12, S18}
@@ -62,40 +62,32 @@ trigger_from_next before r t (starts stops (inl more) is) set = omega (arith, mo
 trigger_from_next before r t (starts stops (inr one) is) set = omega (arith, one.0, same_Some _ t (sym is ∙ set))
 trigger_from_next before r t (rests stops idle is) set = absurd (none-some t (sym is ∙ set))
 
--- a test is true exactly where what it tests holds
-is_true_where : (b : Bool) (P : Type 0) → MatchBool b P (P → ⊥) → (b ≡ true) ↔ P
-is_true_where true P is = (λ e. is, λ p. refl)
-is_true_where false P is = (λ e. absurd (true≢false (sym e)), λ p. absurd (is p))
-
--- whether t-Reassembly has to run for x, by RX_Next_Highest and whether a byte of x is missing before the last one held
-has_to_run_where : (r : Rx) (n x highest : ℕ) (gap : Bool) → n ≡ x → highest ≡ rx_next_highest r
-    → MatchBool gap (HasGap (got r x)) (HasGap (got r x) → ⊥) → HasToRunBelow highest n (gap ≡ true) ↔ HasToRun r x
-has_to_run_where r n x highest gap same same_high tells =
-    let where_gap : (gap ≡ true) ↔ HasGap (got r x) = is_true_where gap (HasGap (got r x)) tells in (
-      λ h. elim h [ inl more ↦ inl (omega (arith, more, same, same_high)) | inr one ↦ inr (omega (arith, one.0, same, same_high), where_gap.0 one.1) ],
-      λ h. elim h [ inl more ↦ inl (omega (arith, more, same, same_high)) | inr one ↦ inr (omega (arith, one.0, same, same_high), where_gap.1 one.1) ],
-    )
+-- whether t-Reassembly has to run for x, by RX_Next_Highest and what is got of x
+has_to_run_where : (r : Rx) (n x highest : ℕ) (g : Got) → n ≡ x → highest ≡ rx_next_highest r → g ≡ got r x
+    → HasToRunBelow highest n (HasGap g) ↔ HasToRun r x
+has_to_run_where r n x highest g same same_high same_got = (
+  λ h. elim h [ inl more ↦ inl (omega (arith, more, same, same_high)) | inr one ↦ inr (omega (arith, one.0, same, same_high), subst HasGap same_got one.1) ],
+  λ h. elim h [ inl more ↦ inl (omega (arith, more, same, same_high)) | inr one ↦ inr (omega (arith, one.0, same, same_high), subst HasGap (sym same_got) one.1) ],
+)
 
 -- the same of t-Reassembly once a PDU was placed
-pub reassembles : (r : Rx) (before : Option ℕ) (next highest : ℕ) (gap : Bool) → next ≡ rx_next r → highest ≡ rx_next_highest r
-    → MatchBool gap (HasGap (got r (rx_next r))) (HasGap (got r (rx_next r)) → ⊥)
-    → TriggerMoves before (RunsOnFrom next r.size (gap ≡ true)) (HasToRunBelow highest next (gap ≡ true)) highest r.rx_next_status_trigger
+pub reassembles : (r : Rx) (before : Option ℕ) (next highest : ℕ) (g : Got) → next ≡ rx_next r → highest ≡ rx_next_highest r → g ≡ got r (rx_next r)
+    → TriggerMoves before (RunsOnFrom next r.size (HasGap g)) (HasToRunBelow highest next (HasGap g)) highest r.rx_next_status_trigger
     → Reassembles before r
-reassembles r before next highest gap same same_high tells moves =
-    let where_gap : (gap ≡ true) ↔ HasGap (got r (rx_next r)) = is_true_where gap (HasGap (got r (rx_next r))) tells in
+reassembles r before next highest g same same_high same_got moves =
     trigger_moves before r.rx_next_status_trigger _ _ _ _ highest (rx_next_highest r)
     (λ t. (
-      λ h. record { above = omega (arith, h.above, same); within = omega (arith, h.within, same); gap = λ one. where_gap.0 (h.gap (omega (arith, one, same))) },
-      λ h. record { above = omega (arith, h.above, same); within = omega (arith, h.within, same); gap = λ one. where_gap.1 (h.gap (omega (arith, one, same))) },
+      λ h. record { above = omega (arith, h.above, same); within = omega (arith, h.within, same); gap = λ one. subst HasGap same_got (h.gap (omega (arith, one, same))) },
+      λ h. record { above = omega (arith, h.above, same); within = omega (arith, h.within, same); gap = λ one. subst HasGap (sym same_got) (h.gap (omega (arith, one, same))) },
     ))
-    (has_to_run_where r next (rx_next r) highest gap same same_high tells) same_high moves
+    (has_to_run_where r next (rx_next r) highest g same same_high same_got) same_high moves
 
 -- and once it ran out
-pub starts_again : (r : Rx) (x highest : ℕ) (gap : Bool) (after : Option ℕ) → highest ≡ rx_next_highest r
-    → MatchBool gap (HasGap (got r x)) (HasGap (got r x) → ⊥) → StartsFrom (HasToRunBelow highest x (gap ≡ true)) highest after
+pub starts_again : (r : Rx) (x highest : ℕ) (g : Got) (after : Option ℕ) → highest ≡ rx_next_highest r → g ≡ got r x
+    → StartsFrom (HasToRunBelow highest x (HasGap g)) highest after
     → (HasToRun r x × (after ≡ Some (rx_next_highest r))) ⊎ ((HasToRun r x → ⊥) × (after ≡ None))
-starts_again r x highest gap after same_high tells from =
-    let where_run : HasToRunBelow highest x (gap ≡ true) ↔ HasToRun r x = has_to_run_where r x x highest gap refl same_high tells in
+starts_again r x highest g after same_high same_got from =
+    let where_run : HasToRunBelow highest x (HasGap g) ↔ HasToRun r x = has_to_run_where r x x highest g refl same_high same_got in
     elim from [
       | inl runs ↦ inl (where_run.0 runs.0, runs.1 ∙ ap (λ (h : ℕ). Some h) same_high)
       | inr idle ↦ inr (λ has. idle.0 (where_run.1 has), idle.1)

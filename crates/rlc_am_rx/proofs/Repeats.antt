@@ -1,6 +1,5 @@
 -- When a data PDU brings nothing new.
-use Rattle.std.proofs.Common.{◌≡◌, inl, inr, ℕ, ◌≤◌, ◌<◌, Bool, true, false, [], length, None, refl, sym, ◌∙◌, subst, arith}
-use Rattle.std.specs.Bool.{MatchBool}
+use Rattle.std.proofs.Common.{◌≡◌, ◌↔◌, inl, inr, ℕ, ◌≤◌, ◌<◌, Bool, true, [], length, None, refl, sym, ◌∙◌, subst, arith}
 use Rattle.rlc_pdu.specs.Amd.{Amd}
 use Rattle.rlc_model.specs.Rx.{Rx, Got, got, rx_next, BringsNothing, IsRepeat}
 use Rattle.rlc_model.specs.Rx.Got.{Done, Part}
@@ -14,9 +13,11 @@ only_bytes r x v g from is undone (inr (inl done)) = absurd (undone (sym is ∙ 
 only_bytes r x v g from is undone (inr (inr nothing)) = subst (λ (h : Got). BringsNothing h v) is nothing
 
 pub repeat_where : (r : Rx) (x : ℕ) (v : Amd) (p : Pieces) (b : Bool) → rx_next r ≤ x → got r x ≡ got_of_pieces p
-    → MatchBool b (BringsNothing (got_of_pieces p) v) (BringsNothing (got_of_pieces p) v → ⊥) → MatchBool b (IsRepeat r x v) (IsRepeat r x v → ⊥)
-repeat_where r x v p true from is nothing = inr (inr (subst (λ (h : Got). BringsNothing h v) (sym is) nothing))
-repeat_where r x v p false from is news = λ h. news (only_bytes r x v (got_of_pieces p) from is part_not_done h)
+    → b ≡ true ↔ BringsNothing (got_of_pieces p) v → b ≡ true ↔ IsRepeat r x v
+repeat_where r x v p b from is nothing = (
+  λ on. inr (inr (subst (λ (h : Got). BringsNothing h v) (sym is) (nothing.0 on))),
+  λ h. nothing.1 (only_bytes r x v (got_of_pieces p) from is part_not_done h),
+)
 
 -- where nothing is got, nothing is a repeat
 pub nothing_repeated : (r : Rx) (x : ℕ) (v : Amd) → rx_next r ≤ x → got r x ≡ Part [] None → 0 < length v.body → IsRepeat r x v → ⊥

@@ -10,6 +10,7 @@ pub record Pieces : Type 0 where
   pub held : List (Option ℕ)
   pub len : Option ℕ
 
+-- what is got of an SDU of which these pieces are held
 abbrev pub got_of_pieces : Pieces → Got
 got_of_pieces p = Part p.held p.len
 

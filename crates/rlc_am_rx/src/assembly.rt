@@ -1,5 +1,5 @@
 // One SDU while it is put together.
-ghost use Rattle.std.specs.Prelude.{◌≡◌, ◌≢◌, ◌⊎◌, ◌<◌, ◌≤◌, ◌+◌, ◌-◌, ℕ, true, false, if◌then◌else◌, Some, None, OnOk, OnErr, IfOk, IfSome, IfNone, length, slice_index};
+ghost use Rattle.std.specs.Prelude.{◌≡◌, ◌≢◌, ◌⊎◌, ◌<◌, ◌≤◌, ◌+◌, ◌-◌, ℕ, true, false, if◌then◌else◌, Some, None, OnOk, OnErr, IfOk, IfSome, IfNone, IsTrue, ◌↔◌, length, slice_index};
 ghost use Rattle.std.specs.Bool.{MatchBool};
 ghost use Rattle.link_base.specs.declared.limits.TheConstants.{LONGEST_RLC_SDU};
 ghost use Rattle.rlc_pdu.specs.Amd.{amd_of};
@@ -76,10 +76,12 @@ impl Assembly {
 
     /// Whether a byte is missing before the last byte held.
     pub(crate) fn has_gap(&self) -> bool
-        ensures { MatchBool result (HasGap (got_of_pieces self.now))
-            (HasGap (got_of_pieces self.now) → ⊥) }
+        ensures { IsTrue result ↔ HasGap (got_of_pieces self.now) }
     {
-        !self.held.covers(0, self.held.end())
+        match self.held.first() {
+            Some((start, stop)) => start > 0 || stop < self.held.end(),
+            None => false,
+        }
     }
 
     /// Whether a byte is held.
@@ -93,8 +95,7 @@ impl Assembly {
     /// Whether a PDU brings nothing new.
     pub(crate) fn is_repeat(&self, pdu: &AmdView<'_>) -> bool
         requires { end_of (amd_of pdu.now) ≤ LONGEST_RLC_SDU }
-        ensures { MatchBool result (BringsNothing (got_of_pieces self.now) (amd_of pdu.now))
-            (BringsNothing (got_of_pieces self.now) (amd_of pdu.now) → ⊥) }
+        ensures { IsTrue result ↔ BringsNothing (got_of_pieces self.now) (amd_of pdu.now) }
     {
         if self.lacks_length(pdu.si) {
             return false;
@@ -113,8 +114,7 @@ impl Assembly {
     /// Whether a PDU disagrees with what is held about the SDU's end.
     pub(crate) fn conflicts(&self, pdu: &AmdView<'_>) -> bool
         requires { end_of (amd_of pdu.now) ≤ LONGEST_RLC_SDU }
-        ensures { MatchBool result (IsConflict (got_of_pieces self.now) (amd_of pdu.now))
-            (IsConflict (got_of_pieces self.now) (amd_of pdu.now) → ⊥) }
+        ensures { IsTrue result ↔ IsConflict (got_of_pieces self.now) (amd_of pdu.now) }
     {
         let to = end_of(pdu);
         if self.holds_past(pdu.si, to) {

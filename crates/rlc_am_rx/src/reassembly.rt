@@ -1,5 +1,5 @@
 // What is got of the SDUs from RX_Next on, and when t-Reassembly runs.
-ghost use Rattle.std.specs.Prelude.{◌≡◌, ◌≢◌, ◌<◌, ◌≤◌, ◌+◌, ◌^◌, ℕ, true, length, max, Option, Some, None, OnOk, OnErr, IfOk};
+ghost use Rattle.std.specs.Prelude.{◌≡◌, ◌≢◌, ◌<◌, ◌≤◌, ◌+◌, ◌^◌, ℕ, true, length, max, Option, Some, None, OnOk, OnErr, IfOk, IsTrue, ◌↔◌};
 ghost use Rattle.std.specs.Bool.{MatchBool};
 ghost use Rattle.link_base.specs.declared.names.SnSize.{SnSize};
 ghost use Rattle.rlc_pdu.specs.Amd.{amd_of, AmdFits};
@@ -140,10 +140,9 @@ pub(crate) fn status_after(
     }
 }
 
-/// Whether the SDU at a place has a byte missing before its last byte held.
-pub(crate) fn has_gap(entries: &VecDeque<Entry>, at: usize) -> bool
-    ensures { MatchBool result (HasGap (got_at entries.now.items at))
-        (HasGap (got_at entries.now.items at) → ⊥) }
+// Whether the SDU at a place has a byte missing before its last byte held.
+fn has_gap(entries: &VecDeque<Entry>, at: usize) -> bool
+    ensures { IsTrue result ↔ HasGap (got_at entries.now.items at) }
 {
     match entries.get(at) {
         Some(Entry::Partly(assembly)) => assembly.has_gap(),
@@ -151,56 +150,62 @@ pub(crate) fn has_gap(entries: &VecDeque<Entry>, at: usize) -> bool
     }
 }
 
-// Whether t-Reassembly has to run for a number, by RX_Next_Highest and whether the number's SDU has a byte missing before
-// its last byte held (TS 38.322 clauses 5.2.3.2.3 and 5.2.3.2.4).
-fn has_to_run(highest: u64, number: u64, gap: bool) -> bool
-    ensures { MatchBool result (HasToRunBelow highest number (gap ≡ true))
-        (HasToRunBelow highest number (gap ≡ true) → ⊥) }
+// Whether t-Reassembly has to run for a number whose entry stands at a place, by RX_Next_Highest (TS 38.322 clauses
+// 5.2.3.2.3 and 5.2.3.2.4).
+fn has_to_run(entries: &VecDeque<Entry>, at: usize, number: u64, highest: u64) -> bool
+    ensures { IsTrue result
+        ↔ HasToRunBelow highest number (HasGap (got_at entries.now.items at)) }
 {
     match highest.saturating_sub(number) {
         0 => false,
-        1 => gap,
+        1 => has_gap(entries, at),
         _ => true,
     }
 }
 
-/// RX_Next_Status_Trigger where t-Reassembly starts if it has to run for this number, and doesn't run if not.
-pub(crate) fn trigger_from(highest: u64, number: u64, gap: bool) -> Option<u64>
-    ensures { StartsFrom (HasToRunBelow highest number (gap ≡ true)) highest result }
+/// RX_Next_Status_Trigger where t-Reassembly starts if it has to run for this number, whose entry stands at a place, and
+/// doesn't run if not.
+pub(crate) fn trigger_from(
+    entries: &VecDeque<Entry>,
+    at: usize,
+    number: u64,
+    highest: u64,
+) -> Option<u64>
+    ensures { StartsFrom (HasToRunBelow highest number (HasGap (got_at entries.now.items at)))
+        highest result }
 {
-    if has_to_run(highest, number, gap) {
+    if has_to_run(entries, at, number, highest) {
         Some(highest)
     } else {
         None
     }
 }
 
-// Whether t-Reassembly runs on with this trigger, by RX_Next and whether its SDU has a byte missing before its last byte
-// held (TS 38.322 clause 5.2.3.2.3).
-fn runs_on(trigger: u64, next: u64, size: SnSize, gap: bool) -> bool
-    ensures { MatchBool result (RunsOnFrom next size (gap ≡ true) trigger)
-        (RunsOnFrom next size (gap ≡ true) trigger → ⊥) }
+// Whether t-Reassembly runs on with this trigger, where the first entry is RX_Next's (TS 38.322 clause 5.2.3.2.3).
+fn runs_on(entries: &VecDeque<Entry>, next: u64, trigger: u64, size: SnSize) -> bool
+    ensures { IsTrue result
+        ↔ RunsOnFrom next size (HasGap (got_at entries.now.items 0)) trigger }
 {
     match trigger.saturating_sub(next) {
         0 => false,
-        1 => gap,
+        1 => has_gap(entries, 0),
         ahead => ahead <= size.window(),
     }
 }
 
-/// RX_Next_Status_Trigger once a PDU was placed, where it was `trigger` before.
+/// RX_Next_Status_Trigger once a PDU was placed, where it was `trigger` before and the first entry is RX_Next's.
 pub(crate) fn trigger_after(
-    trigger: Option<u64>,
+    entries: &VecDeque<Entry>,
     next: u64,
     highest: u64,
+    trigger: Option<u64>,
     size: SnSize,
-    gap: bool,
 ) -> Option<u64>
-    ensures { TriggerMoves trigger (RunsOnFrom next size (gap ≡ true))
-        (HasToRunBelow highest next (gap ≡ true)) highest result }
+    ensures { TriggerMoves trigger (RunsOnFrom next size (HasGap (got_at entries.now.items 0)))
+        (HasToRunBelow highest next (HasGap (got_at entries.now.items 0))) highest result }
 {
     match trigger {
-        Some(trigger) if runs_on(trigger, next, size, gap) => Some(trigger),
-        _ => trigger_from(highest, next, gap),
+        Some(trigger) if runs_on(entries, next, trigger, size) => Some(trigger),
+        _ => trigger_from(entries, 0, next, highest),
     }
 }

@@ -1,5 +1,5 @@
 // The receiving side of an RLC entity in acknowledged mode.
-ghost use Rattle.std.specs.Prelude.{◌≡◌, ◌≢◌, true, ◌<◌, ◌≤◌, ◌+◌, ◌^◌, ◌||◌, [], None, IfOk, OnOk, OnErr, IfSome, IfNone};
+ghost use Rattle.std.specs.Prelude.{◌≡◌, ◌≢◌, true, ◌<◌, ◌≤◌, ◌+◌, ◌^◌, ◌||◌, [], None, IfOk, OnOk, OnErr, IfSome, IfNone, IsTrue, ◌↔◌};
 ghost use Rattle.std.specs.Option.{is_some};
 ghost use Rattle.std.specs.Bool.{MatchBool};
 ghost use Rattle.link_base.specs.SequenceNumbers.{Near};
@@ -17,7 +17,7 @@ ghost use Rattle.rlc_am_rx.specs.Hearing.{heard_of, with_triggered, HasSduLength
 
 use crate::polling::DelayedPolls;
 use crate::reassembly::{
-    Entry, first_open, grow, has_gap, pop_done, status_after, trigger_after, trigger_from,
+    Entry, first_open, grow, pop_done, status_after, trigger_after, trigger_from,
 };
 use crate::status::sn_of;
 use link_base::{Bytes, Expired, Memory, SnSize, near};
@@ -133,8 +133,7 @@ impl AmRx {
     // Whether a PDU of this number brings nothing new.
     fn is_repeat(&self, number: u64, pdu: &AmdView<'_>) -> bool
         requires { AmdFits self.now.size (amd_of pdu.now) }
-        ensures { MatchBool result (IsRepeat self.now number (amd_of pdu.now))
-            (IsRepeat self.now number (amd_of pdu.now) → ⊥) }
+        ensures { IsTrue result ↔ IsRepeat self.now number (amd_of pdu.now) }
     {
         if number < self.rx_next {
             return true;
@@ -153,8 +152,7 @@ impl AmRx {
     fn conflicts(&self, number: u64, pdu: &AmdView<'_>) -> bool
         requires from { rx_next self.now ≤ number }
         requires fits { AmdFits self.now.size (amd_of pdu.now) }
-        ensures { MatchBool result (IsConflict (got self.now number) (amd_of pdu.now))
-            (IsConflict (got self.now number) (amd_of pdu.now) → ⊥) }
+        ensures { IsTrue result ↔ IsConflict (got self.now number) (amd_of pdu.now) }
     {
         match self.entry(number) {
             Some(Entry::Partly(assembly)) => assembly.conflicts(pdu),
@@ -175,12 +173,15 @@ impl AmRx {
         ensures err { OnErr result (self.new ≡ self.old) }
     {
         let at = (number - self.rx_next) as usize;
+        // An entry of which nothing is got tells the same as none, so those added here may stay behind an `Err`.
         grow(&mut self.entries, at + 1)?;
         let fresh = self.delayed_polls.add_if(pdu.poll, number)?;
         let Ok(sdu) = self.entries[at].place(self.alloc, pdu, self.size) else {
             self.delayed_polls.take_back(fresh, number);
             return Err(Memory);
         };
+        // In the order of TS 38.322 clause 5.2.3.2.3: RX_Highest_Status and RX_Next move before t-Reassembly, whose rules
+        // speak of RX_Next as it is then.
         self.rx_next_highest = self.rx_next_highest.max(number + 1);
         self.rx_highest_status = status_after(
             &self.entries,
@@ -191,12 +192,13 @@ impl AmRx {
         );
         self.rx_next += pop_done(&mut self.entries) as u64;
         self.rx_next_status_trigger = trigger_after(
-            self.rx_next_status_trigger,
+            &self.entries,
             self.rx_next,
             self.rx_next_highest,
+            self.rx_next_status_trigger,
             self.size,
-            has_gap(&self.entries, 0),
         );
+        // A poll also triggers from RX_Next and a window on (clause 5.3.4), but no number that is placed lies there.
         self.status_triggered |= self.delayed_polls.take_below(self.rx_highest_status);
         Ok(answer_of(number, sdu))
     }
@@ -211,9 +213,10 @@ impl AmRx {
         let at = first_open(&self.entries, (trigger - self.rx_next) as usize);
         self.rx_highest_status = self.rx_next + at as u64;
         self.rx_next_status_trigger = trigger_from(
-            self.rx_next_highest,
+            &self.entries,
+            at,
             self.rx_highest_status,
-            has_gap(&self.entries, at),
+            self.rx_next_highest,
         );
         self.delayed_polls.take_below(self.rx_highest_status);
         self.status_triggered = true;
@@ -363,8 +366,7 @@ impl AmRx {
     // Whether the number's SDU is complete, or a byte of it is held.
     fn is_touched(&self, number: u64) -> bool
         requires { rx_next self.now ≤ number }
-        ensures { MatchBool result (IsTouched (got self.now number))
-            (IsTouched (got self.now number) → ⊥) }
+        ensures { IsTrue result ↔ IsTouched (got self.now number) }
     {
         match self.entry(number) {
             Some(Entry::Partly(assembly)) => assembly.holds_some(),

@@ -12,7 +12,7 @@ use Rattle.rlc_status.specs.Says.{Some_has, NamesNumber}
 use Rattle.rlc_model.specs.Tx.{Kept, at, is_unsent, is_pending, HasPending, SomePending, SomeUnsent}
 use Rattle.rlc_model.specs.Retransmission.{UpdatesKept, confirmed_tags}
 use Rattle.rlc_am_tx.specs.declared.naming.Naming.{Naming}
-use Rattle.rlc_am_tx.specs.Acknowledging.{settled, EntersOf, WaitsOn, Plans, UpdatesAll}
+use Rattle.rlc_am_tx.specs.Acknowledging.{settled, EntersWaiting, EntersOf, MayWait, WaitsOn, Plans, UpdatesAll}
 use Rattle.rlc_am_tx.specs.Buffer.{kept_from, IsPending, IsIdle, NonePending, NoneUnsent, IsSdu, IsInOrder, IsIdleList, most_sent, all_sent}
 use Rattle.rlc_am_tx.specs.Flags.{is_set, flags_with, counted}
 use Rattle.rlc_am_tx.specs.Inside.{IsTidy}
@@ -128,6 +128,13 @@ waiting_left base count kept_sdus Waits Waits' each only change = record {
 pub pending_from : (base : ℕ) (kept_sdus : List (Option Kept)) (n : ℕ) → HasPending (kept_from base kept_sdus) n → base ≤ n
 pending_from base kept_sdus n h = elim (cases_lt n base) [ inl lt ↦ absurd (false≢true (sym (ap (λ (o : Option Kept). is_pending o h.0) (kept_below base kept_sdus n lt)) ∙ h.1)) | inr ge ↦ ge ]
 
+-- a number waits once a STATUS is planned only where a byte of its SDU is pending, or is to become so
+pub may_wait : (base count : ℕ) (kept_sdus : List (Option Kept)) (names : List Naming) (Old Mid : ℕ → Type 0) → AreWaiting (kept_from base kept_sdus) base Old → ((n : ℕ) → Mid n → Old n ⊎ EntersOf kept_sdus names count base n) → (i : ℕ) → Mid (base + i) → MayWait (at kept_sdus i) (named_at names i)
+may_wait base count kept_sdus names Old Mid w only i waits = elim (only (base + i) waits) [
+  | inl old ↦ let h = w.only (base + i) old in inl (h.0, ap (λ (o : Option Kept). is_pending o h.0) (sym (item_of base kept_sdus i)) ∙ h.1)
+  | inr e ↦ let same : e.0 ≡ i = omega (arith, e.2) in inr (subst (λ j. EntersWaiting (at kept_sdus j) (named_at names j)) same e.3)
+]
+
 -- SDUs that are settled, or stay
 module _ (base count : ℕ) (kept_sdus new : List (Option Kept)) (names : List Naming) (Old Mid : ℕ → Type 0) (w : AreWaiting (kept_from base kept_sdus) base Old)
     (kept : (n : ℕ) → Old n → Mid n) (only : (n : ℕ) → Mid n → Old n ⊎ EntersOf kept_sdus names count base n) (rest : (i : ℕ) → count ≤ i → at new i ≡ at kept_sdus i) where
@@ -162,7 +169,7 @@ module _ (threshold base count : ℕ) (kept_sdus new : List (Option Kept)) (name
   kept_waits i p lt (received k old named none) on = absurd (false≢true (sym (ap (λ (o : Option Kept). is_pending o p) none) ∙ on))
   kept_waits i p lt (lacking k old named some) on = elim (pending_or_idle (at kept_sdus i)) [
     | inl h ↦ elim (w.each (base + i) h.0 (ap (λ (o : Option Kept). is_pending o h.0) (item_of base kept_sdus i) ∙ h.1)) [ inl eq ↦ inl eq | inr was ↦ inr (kept (base + i) was) ]
-    | inr idle ↦ inr (enters (base + i) (i, lt, refl, (set_is i p k old some on idle (named_at names i).pending refl, idle)))
+    | inr idle ↦ inr (enters (base + i) (i, lt, refl, (named, set_is i p k old some on idle (named_at names i).pending refl, idle)))
   ]
 
   pub left_settled : (each : (i : ℕ) → i < count → at new i ≡ settled threshold (named_at names i) (at kept_sdus i)) → (Waits' : ℕ → Type 0) → ((n : ℕ) → Waits' n ↔ Mid n × WaitsOn new count base n) → AreWaiting (kept_from base new) base Waits'

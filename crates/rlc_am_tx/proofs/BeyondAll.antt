@@ -1,6 +1,5 @@
 -- A STATUS speaks of what was not sent, or doesn't.
 use Rattle.std.proofs.Common.{◌≡◌, ◌⊎◌, ◌↔◌, inl, inr, ℕ, ◌+◌, ◌-◌, ◌<◌, ◌≤◌, true, false, not, Bool, List, [], ◌∷◌, Option, refl, sym, ◌∙◌, subst, arith}
-use Rattle.std.specs.Bool.{MatchBool}
 use Rattle.std.proofs.lemmas.Bool.{cases_lt, false≢true}
 use Rattle.link_base.specs.declared.names.SnSize.{SnSize}
 use Rattle.rlc_status.specs.declared.status.Nack.{Nack}
@@ -62,9 +61,9 @@ module _ (size : SnSize) (l : List (Option Kept)) (s : Status) (a : ℕ) where
     all_sent le_u = not_beyond (inl le_u)
 
     -- or is below the ACK
-    pub named_is : (named : Bool) → u < a → MatchBool named (Some_has (λ e. NamesNumber size a e u) s.nacks) (Some_has (λ e. NamesNumber size a e u) s.nacks → ⊥) → (not named ≡ true) ↔ SpeaksBeyond size l s a
-    named_is true lt named = (λ h. absurd (false≢true h), λ b. absurd (not_beyond (inr named) b))
-    named_is false lt none = (λ h. SpeaksBeyond.not_sent u (lt, none) (i.from u (omega arith) (omega (arith, lt, le, count_within l c count))), λ b. refl)
+    pub named_is : (named : Bool) → u < a → named ≡ true ↔ Some_has (λ e. NamesNumber size a e u) s.nacks → (not named ≡ true) ↔ SpeaksBeyond size l s a
+    named_is true lt is = (λ h. absurd (false≢true h), λ b. absurd (not_beyond (inr (is.0 refl)) b))
+    named_is false lt is = (λ h. SpeaksBeyond.not_sent u (lt, λ named. false≢true (is.1 named)) (i.from u (omega arith) (omega (arith, lt, le, count_within l c count))), λ b. refl)
 
   -- none names a number that isn't below the ACK, and what is said received was sent
   pub fine_below : (SpeaksBeyond size l s a → ⊥) → Some_has (PassesAck size a) s.nacks → ⊥

@@ -17,4 +17,4 @@ pub mod Retransmitted
 pub mod Acked
 pub mod Idle
 pub mod Sent
-pub mod Going
+pub mod Invariant

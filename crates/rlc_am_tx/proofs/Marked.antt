@@ -163,6 +163,12 @@ pub next_is : (l : List (Option Kept)) (piece : Piece) (k : Kept) → IsNextOf l
 next_is l piece k (pending first is run) = is
 next_is l piece k (unsent none first is from to) = is
 
+pub next_slot : (base : ℕ) (kept_sdus : List (Option Kept)) (piece : Piece) → IsNextPiece (kept_from base kept_sdus) piece → at kept_sdus (piece.number - base) ≡ at (kept_from base kept_sdus) piece.number
+next_slot base kept_sdus piece n =
+    let k = next_kept (kept_from base kept_sdus) piece n in
+    let h = has_kept base kept_sdus piece.number k.0 k.1 in
+    h.2 ∙ sym k.1
+
 pub next_item : (base : ℕ) (kept_sdus : List (Option Kept)) (piece : Piece) → IsNextPiece (kept_from base kept_sdus) piece → (piece.number - base < length kept_sdus) × (at kept_sdus (piece.number - base) ≢ None)
 next_item base kept_sdus piece n =
     let k = next_kept (kept_from base kept_sdus) piece n in

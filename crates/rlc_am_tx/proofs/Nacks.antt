@@ -1,7 +1,6 @@
 -- Elements of a STATUS, one by one.
-use Rattle.std.proofs.Common.{◌≡◌, ◌⊎◌, ◌↔◌, inl, inr, ℕ, zero, suc, ◌+◌, ◌-◌, ◌<◌, ◌≤◌, true, false, Bool, List, [], ◌∷◌, length, take, get_or, Option, Some, None, sym, ◌∙◌, ap, subst, arith}
-use Rattle.std.specs.Bool.{MatchBool}
-use Rattle.std.proofs.lemmas.Bool.{cases_lt}
+use Rattle.std.proofs.Common.{◌≡◌, ◌⊎◌, ◌↔◌, inl, inr, ℕ, zero, suc, ◌+◌, ◌-◌, ◌<◌, ◌≤◌, true, false, Bool, List, [], ◌∷◌, length, take, get_or, Option, Some, None, refl, sym, ◌∙◌, ap, subst, arith}
+use Rattle.std.proofs.lemmas.Bool.{cases_lt, false≢true}
 use Rattle.std.proofs.lemmas.List.{take_all}
 use Rattle.std.proofs.lemmas.Option.{same_Some}
 use Rattle.link_base.specs.declared.names.SnSize.{SnSize}
@@ -76,9 +75,11 @@ module _ (size : SnSize) (l : List (Option Kept)) (ack : ℕ) (e : Nack) (m star
       let e_is : end ≡ b.end = ap (λ (x : ℕ × ℕ). x.1) parts in
       b.explicit (sym e_is ∙ ends (b.unconfirmed, ap (λ n. at l (n + count e - 1)) same ∙ b.kept, omega (arith, b.past, e_is)))
 
-  pub wrong_is : (r : Bool) → (end ≡ 65535 → ⊥) → MatchBool r (EndsBy l (m + count e - 1) end) (EndsBy l (m + count e - 1) end → ⊥) → MatchBool r (IsWrong size l ack e) (IsWrong size l ack e → ⊥)
-  wrong_is true explicit past = ends_past (record { number = m; unconfirmed = past.0; start = start; end = end; is = g; part = part; kept = past.1; past = past.2; explicit = explicit })
-  wrong_is false explicit none = not_wrong (λ past. absurd (none past))
+  pub wrong_is : (r : Bool) → (end ≡ 65535 → ⊥) → r ≡ true ↔ EndsBy l (m + count e - 1) end → r ≡ true ↔ IsWrong size l ack e
+  wrong_is true explicit is =
+      let past = is.0 refl in
+      (λ _. ends_past (record { number = m; unconfirmed = past.0; start = start; end = end; is = g; part = part; kept = past.1; past = past.2; explicit = explicit }), λ wrong. refl)
+  wrong_is false explicit is = (λ on. absurd (false≢true on), λ wrong. absurd (not_wrong (λ past. absurd (false≢true (is.1 past))) wrong))
 
 -- an element that stands for none
 abbrev pub no_nack : Nack

@@ -12,7 +12,7 @@ use Rattle.rlc_status.specs.Says.{count, Some_has, NamesNumber, NamesPlace}
 use Rattle.rlc_model.specs.Tx.{Kept, at, is_pending}
 use Rattle.rlc_model.specs.Calls.{Grows, confirms, pends, marks, wakes}
 use Rattle.rlc_am_tx.specs.declared.naming.Naming.{Naming}
-use Rattle.rlc_am_tx.specs.Acknowledging.{confirmed_tag, is_mark, marks_at, told_tags, HasToTell, EntersWaiting, GrowsFrom}
+use Rattle.rlc_am_tx.specs.Acknowledging.{confirmed_tag, is_mark, marks_at, told_tags, EntersWaiting, GrowsOneOf, GrowsFrom}
 use Rattle.rlc_am_tx.specs.Buffer.{kept_from}
 use Rattle.rlc_am_tx.specs.Elements.{PassesAck}
 use Rattle.rlc_am_tx.specs.Flags.{comes_to}
@@ -60,8 +60,8 @@ module _ (base : ℕ) (kept_sdus : List (Option Kept)) (size : SnSize) (threshol
         | inr named ↦ pends (base + i) p w.kept (item_of base kept_sdus i ∙ w.is) (names_below size ack (base + i) s.nacks below (place_named size ack (base + i) p s.nacks named), named) lt w.fresh.1
       ]
 
-  pub enters_grows : (i : ℕ) → EntersWaiting (at kept_sdus i) (named_at names i) → GrowsFrom base kept_sdus size threshold s ack
-  enters_grows i e = go (named_at names i).pending refl e.0
+  enters_grows : (i : ℕ) → EntersWaiting (at kept_sdus i) (named_at names i) → GrowsFrom base kept_sdus size threshold s ack
+  enters_grows i e = go (named_at names i).pending refl e.1
     where
       go : (o : Option (List Bool)) → (named_at names i).pending ≡ o → is_some (named_at names i).pending ≡ true → GrowsFrom base kept_sdus size threshold s ack
       go None is h = absurd (false≢true (sym (ap is_some is) ∙ h))
@@ -89,8 +89,10 @@ module _ (base : ℕ) (kept_sdus : List (Option Kept)) (size : SnSize) (threshol
       go (Some k) is false e None q = absurd (false≢true (sym (ap (λ (o : Option Kept). is_mark threshold o (named_at names i).named (is_some (named_at names i).pending)) is ∙ ap (λ (x : Bool). is_mark threshold (Some k) x (is_some (named_at names i).pending)) e) ∙ mark))
       go (Some k) is true e None q = count_of k is e k.retx_count refl (sym (ap (λ (o : Option Kept). is_mark threshold o (named_at names i).named (is_some (named_at names i).pending)) is ∙ ap (λ (x : Bool). is_mark threshold (Some k) x (is_some (named_at names i).pending)) e ∙ ap (λ (o : Option (List Bool)). comes_to threshold k.retx_count (is_some o)) q) ∙ mark)
 
-  pub told_grows : HasToTell threshold kept_sdus names (ack - base) → GrowsFrom base kept_sdus size threshold s ack
-  told_grows h = elim h.why [ inl some ↦ tag_grows h.index h.within some | inr mark ↦ mark_grows h.index h.within mark ]
+  pub one_grows : GrowsOneOf threshold kept_sdus names (ack - base) → GrowsFrom base kept_sdus size threshold s ack
+  one_grows (i, lt, inl some) = tag_grows i lt some
+  one_grows (i, lt, inr (inl mark)) = mark_grows i lt mark
+  one_grows (i, lt, inr (inr enters)) = enters_grows i enters
 
   -- some tag is told
   told_next : (o : Option Kept) (os : List (Option Kept)) (x : Naming) (xs : List Naming) (c : ℕ) → ((told_tags (take c os) (take c xs) ≢ []) → (i : ℕ) × (i < c) × (confirmed_tag (named_at xs i).named (at os i) ≢ None)) → (t : Option Tag) → confirmed_tag x.named o ≡ t → option_to_list (confirmed_tag x.named o) ++ told_tags (take c os) (take c xs) ≢ [] → (i : ℕ) × (i < suc c) × (confirmed_tag (named_at (x ∷ xs) i).named (at (o ∷ os) i) ≢ None)

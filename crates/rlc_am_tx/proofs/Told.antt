@@ -1,5 +1,5 @@
 -- What a STATUS tells: the tags of SDUs that are confirmed, and the marks.
-use Rattle.std.proofs.Common.{◌≡◌, ◌≢◌, inl, inr, ℕ, zero, suc, ◌+◌, ◌<◌, true, false, Bool, List, [], ◌∷◌, ◌++◌, length, take, get_or, count_by, is_some, cond, Option, Some, None, refl, sym, ◌∙◌, ap, subst, arith, append_assoc}
+use Rattle.std.proofs.Common.{◌≡◌, inl, inr, ℕ, zero, suc, ◌+◌, ◌<◌, true, false, Bool, List, [], ◌∷◌, ◌++◌, length, take, get_or, count_by, is_some, cond, Option, Some, None, refl, sym, ◌∙◌, ap, subst, arith, append_assoc}
 use Rattle.std.specs.List.{Contains}
 use Rattle.std.specs.Bool.{then_some}
 use Rattle.std.specs.Option.{option_to_list}
@@ -74,10 +74,6 @@ marks_next threshold base kept_sdus names i marks false a is = subst (AreMarks t
     ],
   );
 })
-
-pub marked_true : (b : Bool) (n : ℕ) (o : Option ℕ) → o ≡ then_some b n → o ≢ None → b ≡ true
-marked_true true n o is h = refl
-marked_true false n o is h = absurd (h is)
 
 -- how many tags there are
 pub tags_count : (xs ys : List (Option Kept)) → length ys ≡ length xs → ((i : ℕ) → at xs i ≡ None → at ys i ≡ None) → count_by is_some ys + length (confirmed_tags xs ys) ≡ count_by is_some xs

@@ -1,20 +1,23 @@
 -- Numbers that wait for retransmission.
-use Rattle.std.proofs.Common.{◌≡◌, ◌≢◌, ◌⊎◌, ◌↔◌, inl, inr, ℕ, ◌+◌, ◌-◌, ◌<◌, ◌≤◌, true, false, Bool, cond, List, length, get_or, Option, Some, None, refl, sym, ◌∙◌, ap, subst, arith}
+use Rattle.std.proofs.Common.{◌≡◌, ◌≢◌, ◌⊎◌, ◌↔◌, inl, inr, ℕ, ◌+◌, ◌-◌, ◌<◌, ◌≤◌, true, false, not, Bool, cond, is_some, List, length, get_or, Option, Some, None, refl, sym, ◌∙◌, ap, subst, arith}
 use Rattle.std.specs.Ordering.{nat_cmp, is_gt}
 use Rattle.std.specs.BTreeSet.{BTreeSet, contains, IsLowerBound, Updates}
 use Rattle.std.specs.BTreeMap.{is_at}
 use Rattle.std.proofs.lemmas.Bool.{cases_eq, cases_lt, false≢true}
 use Rattle.std.proofs.lemmas.Bool.Decides.{nat_tests}
 use Rattle.std.proofs.lemmas.List.{get_or_default}
+use Rattle.std.proofs.lemmas.Option.{none-some, same_Some}
 use Rattle.link_base.specs.declared.names.LocalId.{LocalId}
 use Rattle.rlc_model.specs.Tx.{Kept, at, is_pending, HasPending}
 use Rattle.rlc_am_tx.specs.declared.pieces.Piece.{Piece}
 use Rattle.rlc_am_tx.specs.Pieces.{AreWaiting, IsPendingAt, IsPendingPiece}
 use Rattle.rlc_am_tx.proofs.Numbers.{kept_below, kept_item}
 use Rattle.rlc_am_tx.specs.declared.naming.Naming.{Naming}
-use Rattle.rlc_am_tx.specs.Acknowledging.{EntersWaiting, EntersOf, WaitsOn}
+use Rattle.rlc_am_tx.specs.Acknowledging.{renewed, EntersWaiting, EntersOf, MayWait, WaitsOn}
+use Rattle.rlc_am_tx.specs.Flags.{IsSetOfSent}
+use Rattle.rlc_am_tx.proofs.Flagged.{flag_taken}
 use Rattle.rlc_am_tx.specs.Buffer.{kept_from, BearsOne, BearsIn, IsPending}
-use Rattle.rlc_am_tx.specs.Naming.{named_at}
+use Rattle.rlc_am_tx.specs.Naming.{named_at, IsNamingOf}
 
 -- a set with the same keys has the same numbers
 pub same_contains : (old new : BTreeSet ℕ) → new.keys ≡ old.keys → (n : ℕ) → contains nat_cmp new n ≡ contains nat_cmp old n
@@ -71,6 +74,42 @@ waits_begin kept_sdus base Old n = (λ h. (h, λ j lt e. absurd (omega (arith, l
 
 pub waits_same : (kept_sdus : List (Option Kept)) (i count base : ℕ) (n : ℕ) → i ≡ count → WaitsOn kept_sdus i base n → WaitsOn kept_sdus count base n
 waits_same kept_sdus i count base n e w = subst (λ m. WaitsOn kept_sdus m base n) e w
+
+-- of an SDU that is confirmed no byte is to become pending
+pub none_pending : (o : Option Kept) (x : Naming) → o ≡ None → IsNamingOf o x → x.pending ≡ None
+none_pending o x none n = go x.pending refl
+  where
+    go : (p : Option (List Bool)) → x.pending ≡ p → p ≡ None
+    go None is = refl
+    go (Some set) is = let w = n set is in absurd (none-some w.kept (sym none ∙ w.is))
+
+pub none_enters : (o : Option Kept) (x : Naming) → o ≡ None → IsNamingOf o x → EntersWaiting o x → ⊥
+none_enters o x none n e = false≢true (sym (ap is_some (none_pending o x none n)) ∙ e.1)
+
+pub none_of : (o : Option Kept) (b : Bool) → is_some o ≡ not b → b ≡ true → o ≡ None
+none_of None b is e = refl
+none_of (Some k) b is e = absurd (false≢true (sym (is ∙ ap not e)))
+
+-- an SDU that is considered for retransmission has a pending byte, where its number may wait
+pub renewed_pending : (threshold : ℕ) (k : Kept) (x : Naming) → IsNamingOf (Some k) x → MayWait (Some k) x → IsPending (Some (renewed threshold k x.pending))
+renewed_pending threshold k x n may = go x.pending refl
+  where
+    go : (p : Option (List Bool)) → x.pending ≡ p → IsPending (Some (renewed threshold k p))
+    go None is = elim may [ inl h ↦ h | inr e ↦ absurd (false≢true (sym (ap is_some is) ∙ e.1)) ]
+    go (Some set) is =
+        let w = n set is in
+        let same : w.kept ≡ k = same_Some w.kept k (sym w.is) in
+        let fits : IsSetOfSent set (length k.flags) = subst (λ (y : Kept). IsSetOfSent set (length y.flags)) same w.fits in
+        (w.fresh.0, flag_taken set (length k.flags) fits w.fresh.0 ∙ w.fresh.2)
+
+-- the number of an SDU that is confirmed does not wait
+pub none_waits : (o : Option Kept) (x : Naming) → o ≡ None → IsNamingOf o x → MayWait o x → ⊥
+none_waits o x none n (inl h) = false≢true (sym (ap (λ (y : Option Kept). is_pending y h.0) none) ∙ h.1)
+none_waits o x none n (inr e) = none_enters o x none n e
+
+-- where a number waits only with a pending byte, it does not leave
+pub waits_still : (Waits : ℕ → Type 0) (number : ℕ) (o : Option Kept) → (Waits number → IsPending o) → (n : ℕ) → Waits n ↔ Waits n × (n ≡ number → IsPending o)
+waits_still Waits number o pending n = (λ waits. (waits, λ e. pending (subst Waits e waits)), λ h. h.0)
 
 -- one more SDU is entered
 module _ (kept_sdus : List (Option Kept)) (names : List Naming) (i base : ℕ) (o : Option Kept) (x : Naming) (here : o ≡ at kept_sdus i) (named : x ≡ named_at names i) where

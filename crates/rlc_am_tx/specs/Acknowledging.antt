@@ -39,6 +39,7 @@ abbrev pub settled_by : Bool → Kept → Option Kept
 settled_by true k = Some k
 settled_by false k = None
 
+-- an SDU behind a STATUS that names this of it
 abbrev pub settled : ℕ → Naming → Option Kept → Option Kept
 settled threshold x None = None
 settled threshold x (Some k) = settled_by x.named (renewed threshold k x.pending)
@@ -54,15 +55,21 @@ pub record AreMarks (threshold base : ℕ) (kept_sdus : List (Option Kept)) (nam
   pub rise : IsStrictlyIncreasing marks
   pub each : (n : ℕ) → Contains marks n ↔ ((i : ℕ) × (i < len) × (n ≡ base + i) × (marks_at threshold kept_sdus names i ≡ true))
 
--- one of the first SDUs isn't named, or its count comes to the threshold
-pub record HasToTell (threshold : ℕ) (kept_sdus : List (Option Kept)) (names : List Naming) (len : ℕ) : Type 0 where
-  pub index : ℕ
-  pub within : index < len
-  pub why : (confirmed_tag (named_at names index).named (at kept_sdus index) ≢ None) ⊎ (marks_at threshold kept_sdus names index ≡ true)
-
--- a byte of an SDU is to become pending, and none is
+-- an SDU is named of which a byte is to become pending, and none is
 abbrev pub EntersWaiting : Option Kept → Naming → Type 0
-EntersWaiting o x = (is_some x.pending ≡ true) × IsIdle o
+EntersWaiting o x = (x.named ≡ true) × (is_some x.pending ≡ true) × IsIdle o
+
+-- of an SDU something grows: it has a tag to tell or a mark, or its number is to wait
+abbrev pub GrowsOne : ℕ → Option Kept → Naming → Type 0
+GrowsOne threshold o x = (confirmed_tag x.named o ≢ None) ⊎ (is_mark threshold o x.named (is_some x.pending) ≡ true) ⊎ EntersWaiting o x
+
+-- of one of the first SDUs something grows
+abbrev pub GrowsOneOf : ℕ → List (Option Kept) → List Naming → ℕ → Type 0
+GrowsOneOf threshold kept_sdus names len = (i : ℕ) × (i < len) × GrowsOne threshold (at kept_sdus i) (named_at names i)
+
+-- the number of an SDU may wait: a byte of it is pending, or is to become so
+abbrev pub MayWait : Option Kept → Naming → Type 0
+MayWait o x = IsPending o ⊎ EntersWaiting o x
 
 -- the number is one of the first, and its SDU is such
 abbrev pub EntersOf : List (Option Kept) → List Naming → ℕ → ℕ → ℕ → Type 0
@@ -81,9 +88,11 @@ pub record UpdatesAll (size : SnSize) (threshold ack : ℕ) (s : Status) (old : 
   pub its_tags : tags ≡ confirmed_tags old new
 
 -- what is planned of a STATUS: what it names, the tags and the marks
-pub record Plans (kept_sdus : List (Option Kept)) (base : ℕ) (size : SnSize) (ack threshold : ℕ) (s : Status) (names : List Naming) (tags : List Tag) (marks : List ℕ) : Type 0 where
+pub record Plans (kept_sdus : List (Option Kept)) (base : ℕ) (size : SnSize) (ack threshold : ℕ) (s : Status) (names : List Naming) (tags : List Tag) (marks : List ℕ) :
+    Type 0 where
   pub numbers : (i : ℕ) → (named_at names i).named ≡ true ↔ Some_has (λ e. NamesNumber size ack e (base + i)) s.nacks
-  pub places : (i p : ℕ) (k : Kept) → at kept_sdus i ≡ Some k → p < length k.flags → (pends_with (Some k) (named_at names i).pending p ≡ true) ↔ (is_pending (Some k) p ≡ true) ⊎ Some_has (λ e. NamesPlace size ack e (base + i) p) s.nacks
+  pub places : (i p : ℕ) (k : Kept) → at kept_sdus i ≡ Some k → p < length k.flags
+      → (pends_with (Some k) (named_at names i).pending p ≡ true) ↔ (is_pending (Some k) p ≡ true) ⊎ Some_has (λ e. NamesPlace size ack e (base + i) p) s.nacks
   pub fits : AreNamingsOf kept_sdus names
   pub its_tags : tags ≡ told_tags (take (ack - base) kept_sdus) (take (ack - base) names)
   pub its_marks : AreMarks threshold base kept_sdus names (ack - base) marks

@@ -19,10 +19,11 @@ BearsOne (Some k) ue = k.tag.ue ≡ Some ue
 abbrev pub BearsIn : List (Option Kept) → LocalId → Type 0
 BearsIn l ue = (n : ℕ) × (k : Kept) × (at l n ≡ Some k) × (k.tag.ue ≡ Some ue)
 
--- a byte of an SDU is pending, or none is
+-- a byte of an SDU is pending
 abbrev pub IsPending : Option Kept → Type 0
 IsPending o = (p : ℕ) × (is_pending o p ≡ true)
 
+-- none is
 abbrev pub IsIdle : Option Kept → Type 0
 IsIdle o = (p : ℕ) → is_pending o p ≡ false
 

@@ -10,6 +10,7 @@ use Rattle.rlc_am_tx.specs.Naming.{AreForgotten}
 use Rattle.rlc_am_tx.specs.Pieces.{AreWaiting}
 use Rattle.rlc_am_tx.specs.declared.buffer.TxBuffer.TheInside.{Inside}
 
+-- what a buffer keeps, by number
 abbrev pub kept_of : Inside → List (Option Kept)
 kept_of a = kept_from a.next_ack a.kept_sdus.items
 

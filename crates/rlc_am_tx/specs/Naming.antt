@@ -57,11 +57,13 @@ pub record NamesAll (kept_sdus : List (Option Kept)) (Numbers : ℕ → Type 0) 
 
 -- what an element names of the numbers from `base` on, where `first` is its first one
 abbrev pub ByElement : List (Option Kept) → ℕ → ℕ → Nack → List Naming → List Naming → Type 0
-ByElement kept_sdus base first nack old new = NamesAll kept_sdus (λ i. HoldsNumber nack first (base + i)) (λ i p. HoldsNumber nack first (base + i) × HoldsPlace nack first (base + i) p) old new
+ByElement kept_sdus base first nack old new =
+    NamesAll kept_sdus (λ i. HoldsNumber nack first (base + i)) (λ i p. HoldsNumber nack first (base + i) × HoldsPlace nack first (base + i) p) old new
 
 -- what elements do
 abbrev pub ByElements : List (Option Kept) → ℕ → SnSize → ℕ → List Nack → List Naming → List Naming → Type 0
-ByElements kept_sdus base size ack nacks old new = NamesAll kept_sdus (λ i. Some_has (λ e. NamesNumber size ack e (base + i)) nacks) (λ i p. Some_has (λ e. NamesPlace size ack e (base + i) p) nacks) old new
+ByElements kept_sdus base size ack nacks old new =
+    NamesAll kept_sdus (λ i. Some_has (λ e. NamesNumber size ack e (base + i)) nacks) (λ i p. Some_has (λ e. NamesPlace size ack e (base + i) p) nacks) old new
 
 -- of some SDU a place is one of these, or of those named before, whose byte was sent and isn't pending
 abbrev pub CanNameOne : List (Option Kept) → (ℕ → ℕ → Type 0) → List Naming → Type 0

@@ -1,13 +1,17 @@
 -- Sending a piece of an SDU (TS 38.322 clauses 5.2.3.1.1 and 5.3.3.2).
-use Rattle.std.specs.Prelude.{◌≡◌, ℕ, ◌-◌, ◌<◌, Bool, true, false, List}
+use Rattle.std.specs.Prelude.{◌≡◌, ℕ, ◌-◌, ◌<◌, Bool, true, false, List, Option}
 use Rattle.link_base.specs.declared.names.SnSize.{SnSize}
 use Rattle.link_base.specs.SequenceNumbers.{modulus}
 use Rattle.rlc_pdu.specs.Amd.{Amd, amd_bytes}
 use Rattle.rlc_model.specs.Pdu.{piece}
-use Rattle.rlc_model.specs.Tx.{Tx, kept_at, SameSettings, Counters}
+use Rattle.rlc_model.specs.Tx.{Tx, Kept, kept_at, SameSettings, Counters}
 use Rattle.rlc_am_tx.specs.declared.pieces.Piece.{Piece}
 use Rattle.rlc_am_tx.specs.Buffer.{sdu_of, sent_of}
 use Rattle.rlc_am_tx.specs.Pieces.{MarksSent}
+
+-- the PDU of a piece of an SDU up to but without the place `end`, without a poll
+abbrev pub plain_piece : SnSize → Option Kept → Piece → ℕ → Amd
+plain_piece size o p end = piece size p.number (sdu_of o) p.from end false
 
 -- the PDU of a piece up to but without the place `end`
 abbrev pub piece_of : Tx → Piece → ℕ → Bool → Amd

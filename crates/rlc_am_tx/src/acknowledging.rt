@@ -2,7 +2,7 @@
 ghost use Rattle.std.specs.Prelude.{◌≡◌, ◌≢◌, ◌⊎◌, ◌↔◌, ◌+◌, ◌<◌, ◌≤◌, ◌^◌, ℕ, ◌-◌, [], ◌++◌, true, false, None, Some, length, take, replicate, is_some, vec_capacity, OnOk, OnErr, IsTrue};
 ghost use Rattle.std.specs.List.{prefix_len};
 ghost use Rattle.std.specs.Option.{is_none, option_to_list};
-ghost use Rattle.std.specs.Bool.{MatchBool};
+ghost use Rattle.std.specs.Bool.{MatchBool, then_some};
 ghost use Rattle.std.specs.Ordering.{nat_cmp};
 ghost use Rattle.std.specs.BTreeSet.{contains};
 ghost use Rattle.rlc_status.specs.Format.{AllFit};
@@ -11,7 +11,7 @@ ghost use Rattle.rlc_model.specs.Tx.{at};
 ghost use Rattle.rlc_am_tx.specs.Buffer.{IsPending, IsIdle};
 ghost use Rattle.rlc_am_tx.specs.Elements.{PassesAck};
 ghost use Rattle.rlc_am_tx.specs.Naming.{not_named, named_at, IsNamingOf, AreNamingsOf, ByElements, AreForgotten};
-ghost use Rattle.rlc_am_tx.specs.Acknowledging.{confirmed_tag, is_mark, marks_at, settled, told_tags, AreMarks, HasToTell, EntersWaiting, EntersOf, WaitsOn, Plans, GrowsFrom};
+ghost use Rattle.rlc_am_tx.specs.Acknowledging.{confirmed_tag, is_mark, settled, told_tags, AreMarks, EntersWaiting, EntersOf, GrowsOne, GrowsOneOf, MayWait, WaitsOn, Plans, GrowsFrom};
 
 use crate::kept_sdu::KeptSdu;
 use crate::naming::{Naming, name_all};
@@ -82,7 +82,8 @@ pub(crate) fn plan(
     requires no_tags { told.old.tags.items ≡ [] }
     requires no_marks { told.old.marks.items ≡ [] }
     ensures ok { OnOk result
-        (Plans kept_sdus.now.items base size ack threshold status.now names.new.items told.new.tags.items told.new.marks.items) }
+        (Plans kept_sdus.now.items base size ack threshold status.now names.new.items
+        told.new.tags.items told.new.marks.items) }
     ensures long { length names.new.items ≡ length names.old.items }
     ensures rest { (i : ℕ) → ack ≤ base + i → named_at names.new.items i ≡ not_named }
     ensures enters { OnOk result
@@ -101,24 +102,25 @@ pub(crate) fn plan(
 {
     let count = (ack - base) as usize;
     name_all(kept_sdus, names, base, size, ack, status.nacks.as_slice())?;
-    enter_all(kept_sdus, names, count, base, waiting)?;
-    tell_all(kept_sdus, names, count, threshold, base, told)?;
+    plan_all(kept_sdus, names, base, count, threshold, waiting, told)?;
     told.reserve(poll_owed, may_wake)
 }
 
-// Adds the tags of the first `count` SDUs that are to be confirmed, and the numbers that are to be marks, where `base` is
-// the first SDU's.
-fn tell_all(
+// Of the first `count` SDUs, where `base` is the first one's number, adds the tags of those that are to be confirmed and the
+// numbers that are to be marks, and has those wait of which a byte is to become pending, and none is.
+fn plan_all(
     kept_sdus: &VecDeque<Option<KeptSdu>>,
     names: &VecDeque<Naming>,
+    base: u64,
     count: usize,
     threshold: u8,
-    base: u64,
+    waiting: &mut BTreeSet<u64>,
     told: &mut Acknowledged,
 ) -> Result<(), Memory>
     requires kept_sdus { count ≤ length kept_sdus.now.items }
     requires names { count ≤ length names.now.items }
     requires small { base + count ≤ 2 ^ 62 }
+    requires fits { AreNamingsOf kept_sdus.now.items names.now.items }
     requires no_tags { told.old.tags.items ≡ [] }
     requires no_marks { told.old.marks.items ≡ [] }
     ensures tags { OnOk result
@@ -126,62 +128,7 @@ fn tell_all(
         (take count names.now.items)) }
     ensures marks { OnOk result
         (AreMarks threshold base kept_sdus.now.items names.now.items count told.new.marks.items) }
-    ensures err { OnErr result (HasToTell threshold kept_sdus.now.items names.now.items count) }
-{
-    for index in 0..count {
-        let tag = confirmed_tag(&kept_sdus[index], &names[index]);
-        add(&mut told.tags, tag)?;
-        let marked = is_mark(&kept_sdus[index], &names[index], threshold);
-        add(&mut told.marks, marked.then_some(base + index as u64))?;
-    }
-    Ok(())
-}
-
-// The tag of an SDU that is to be confirmed, since it isn't named.
-fn confirmed_tag(kept_sdu: &Option<KeptSdu>, naming: &Naming) -> Option<Tag>
-    ensures { result ≡ confirmed_tag naming.now.named kept_sdu.now }
-{
-    match kept_sdu {
-        Some(kept_sdu) if !naming.named => Some(kept_sdu.tag()),
-        _ => None,
-    }
-}
-
-// Whether an SDU is named whose RETX_COUNT is to come to the threshold.
-fn is_mark(kept_sdu: &Option<KeptSdu>, naming: &Naming, threshold: u8) -> bool
-    ensures { result ≡ is_mark threshold kept_sdu.now naming.now.named
-        (is_some naming.now.pending) }
-{
-    match kept_sdu {
-        Some(kept_sdu) if naming.named => kept_sdu.is_mark(naming.pending.is_some(), threshold),
-        _ => false,
-    }
-}
-
-// Adds an item, where there is one.
-fn add<T: Copy + Drop>(items: &mut Vec<T>, item: Option<T>) -> Result<(), Memory>
-    ensures ok { OnOk result (items.new.items ≡ items.old.items ++ option_to_list item) }
-    ensures err { OnErr result (item ≢ None) }
-{
-    if let Some(item) = item {
-        items.push(item)?;
-    }
-    Ok(())
-}
-
-// Has those of the first `count` numbers wait of which a byte is to become pending, and none is, where `base` is the first
-// SDU's.
-fn enter_all(
-    kept_sdus: &VecDeque<Option<KeptSdu>>,
-    names: &VecDeque<Naming>,
-    count: usize,
-    base: u64,
-    waiting: &mut BTreeSet<u64>,
-) -> Result<(), Memory>
-    requires kept_sdus { count ≤ length kept_sdus.now.items }
-    requires names { count ≤ length names.now.items }
-    requires small { base + count ≤ 2 ^ 62 }
-    ensures ok { OnOk result
+    ensures enters { OnOk result
         ((n : ℕ) → EntersOf kept_sdus.now.items names.now.items count base n
         → contains nat_cmp waiting.new n ≡ true) }
     ensures kept { (n : ℕ) → contains nat_cmp waiting.old n ≡ true → contains nat_cmp waiting.new n
@@ -190,37 +137,80 @@ fn enter_all(
         → (contains nat_cmp waiting.old n ≡ true)
         ⊎ EntersOf kept_sdus.now.items names.now.items count base n }
     ensures err { OnErr result
-        ((i : ℕ) × (i < count)
-        × EntersWaiting (at kept_sdus.now.items i) (named_at names.now.items i)) }
+        (GrowsOneOf threshold kept_sdus.now.items names.now.items count) }
 {
     for index in 0..count {
-        enter(
-            waiting,
-            base + index as u64,
+        plan_one(
             &kept_sdus[index],
             &names[index],
+            base + index as u64,
+            threshold,
+            waiting,
+            told,
         )?;
     }
     Ok(())
 }
 
-// Has a number wait of which a byte is to become pending, and none is.
-fn enter(
-    waiting: &mut BTreeSet<u64>,
-    number: u64,
+// The same of one SDU.
+fn plan_one(
     kept_sdu: &Option<KeptSdu>,
     naming: &Naming,
+    number: u64,
+    threshold: u8,
+    waiting: &mut BTreeSet<u64>,
+    told: &mut Acknowledged,
 ) -> Result<(), Memory>
-    ensures ok { OnOk result
+    requires { IsNamingOf kept_sdu.now naming.now }
+    ensures tags { OnOk result
+        (told.new.tags.items ≡ told.old.tags.items
+        ++ option_to_list (confirmed_tag naming.now.named kept_sdu.now)) }
+    ensures marks { OnOk result
+        (told.new.marks.items ≡ told.old.marks.items
+        ++ option_to_list (then_some
+        (is_mark threshold kept_sdu.now naming.now.named (is_some naming.now.pending)) number)) }
+    ensures enters { OnOk result
         (EntersWaiting kept_sdu.now naming.now → contains nat_cmp waiting.new number ≡ true) }
     ensures kept { (n : ℕ) → contains nat_cmp waiting.old n ≡ true → contains nat_cmp waiting.new n
         ≡ true }
     ensures only { (n : ℕ) → contains nat_cmp waiting.new n ≡ true
         → (contains nat_cmp waiting.old n ≡ true)
         ⊎ ((n ≡ number) × EntersWaiting kept_sdu.now naming.now) }
-    ensures err { OnErr result (EntersWaiting kept_sdu.now naming.now) }
+    ensures err { OnErr result (GrowsOne threshold kept_sdu.now naming.now) }
 {
-    if naming.pending.is_none() || has_pending(kept_sdu) {
+    let Some(kept_sdu) = kept_sdu else {
+        return Ok(());
+    };
+    if !naming.named {
+        told.tags.push(kept_sdu.tag())?;
+        return Ok(());
+    }
+    enter(waiting, number, kept_sdu, naming)?;
+    if kept_sdu.is_mark(naming.pending.is_some(), threshold) {
+        told.marks.push(number)?;
+    }
+    Ok(())
+}
+
+// Has the number of an SDU that is named wait, where a byte of it is to become pending and none is.
+fn enter(
+    waiting: &mut BTreeSet<u64>,
+    number: u64,
+    kept_sdu: &KeptSdu,
+    naming: &Naming,
+) -> Result<(), Memory>
+    requires { naming.now.named ≡ true }
+    ensures ok { OnOk result
+        (EntersWaiting (Some kept_sdu.now) naming.now
+        → contains nat_cmp waiting.new number ≡ true) }
+    ensures kept { (n : ℕ) → contains nat_cmp waiting.old n ≡ true → contains nat_cmp waiting.new n
+        ≡ true }
+    ensures only { (n : ℕ) → contains nat_cmp waiting.new n ≡ true
+        → (contains nat_cmp waiting.old n ≡ true)
+        ⊎ ((n ≡ number) × EntersWaiting (Some kept_sdu.now) naming.now) }
+    ensures err { OnErr result (EntersWaiting (Some kept_sdu.now) naming.now) }
+{
+    if naming.pending.is_none() || kept_sdu.has_pending() {
         return Ok(());
     }
     waiting.insert(number)?;
@@ -262,22 +252,27 @@ fn has_pending(kept_sdu: &Option<KeptSdu>) -> bool
     ensures { MatchBool result (IsPending kept_sdu.now) (IsIdle kept_sdu.now) }
 {
     match kept_sdu {
-        Some(kept_sdu) => kept_sdu.first_pending().is_some(),
+        Some(kept_sdu) => kept_sdu.has_pending(),
         None => false,
     }
 }
 
 /// Confirms those of the first `count` SDUs that aren't named, considers the others for retransmission, and forgets what
-/// was named.
+/// was named. Numbers that are confirmed wait no more, where `base` is the first SDU's.
 pub(crate) fn settle_all(
     kept_sdus: &mut VecDeque<Option<KeptSdu>>,
     names: &mut VecDeque<Naming>,
+    base: u64,
     count: usize,
     threshold: u8,
+    waiting: &mut BTreeSet<u64>,
 )
     requires kept_sdus { count ≤ length kept_sdus.old.items }
     requires names { count ≤ length names.old.items }
+    requires small { base + count ≤ 2 ^ 62 }
     requires fits { AreNamingsOf kept_sdus.old.items names.old.items }
+    requires waits { (i : ℕ) → i < count → contains nat_cmp waiting.old (base + i) ≡ true
+        → MayWait (at kept_sdus.old.items i) (named_at names.old.items i) }
     ensures each { (i : ℕ) → i < count → at kept_sdus.new.items i
         ≡ settled threshold (named_at names.old.items i) (at kept_sdus.old.items i) }
     ensures rest { (i : ℕ) → count ≤ i → at kept_sdus.new.items i ≡ at kept_sdus.old.items i }
@@ -285,20 +280,46 @@ pub(crate) fn settle_all(
     ensures forgotten { (i : ℕ) → i < count → named_at names.new.items i ≡ not_named }
     ensures others { (i : ℕ) → count ≤ i → named_at names.new.items i ≡ named_at names.old.items i }
     ensures same { length names.new.items ≡ length names.old.items }
+    ensures waiting { (n : ℕ) → contains nat_cmp waiting.new n ≡ true
+        ↔ (contains nat_cmp waiting.old n ≡ true) × WaitsOn kept_sdus.new.items count base n }
 {
     for index in 0..count {
-        settle(&mut kept_sdus[index], &mut names[index], threshold);
+        settle(
+            &mut kept_sdus[index],
+            &mut names[index],
+            base + index as u64,
+            threshold,
+            waiting,
+        );
     }
 }
 
 // The same of one SDU.
-fn settle(kept_sdu: &mut Option<KeptSdu>, naming: &mut Naming, threshold: u8)
-    requires { IsNamingOf kept_sdu.old naming.old }
+fn settle(
+    kept_sdu: &mut Option<KeptSdu>,
+    naming: &mut Naming,
+    number: u64,
+    threshold: u8,
+    waiting: &mut BTreeSet<u64>,
+)
+    requires fits { IsNamingOf kept_sdu.old naming.old }
+    requires waits { contains nat_cmp waiting.old number ≡ true
+        → MayWait kept_sdu.old naming.old }
     ensures kept_sdu { kept_sdu.new ≡ settled threshold naming.old kept_sdu.old }
     ensures naming { naming.new ≡ not_named }
+    ensures waiting { (n : ℕ) → contains nat_cmp waiting.new n ≡ true
+        ↔ (contains nat_cmp waiting.old n ≡ true) × (n ≡ number → IsPending kept_sdu.new) }
 {
+    if kept_sdu.is_none() {
+        naming.named = false;
+        return;
+    }
     let pending = naming.pending.take();
     if !naming.named {
+        // Its number waits only where a byte of it is pending, so most are confirmed without a search.
+        if has_pending(kept_sdu) {
+            waiting.remove(&number);
+        }
         *kept_sdu = None;
         return;
     }

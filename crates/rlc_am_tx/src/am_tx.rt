@@ -1,13 +1,11 @@
 // The transmitting side of an RLC entity in acknowledged mode.
-ghost use Rattle.std.specs.Prelude.{◌≡◌, ◌⊎◌, ◌↔◌, ◌+◌, ◌-◌, ◌*◌, ◌<◌, ◌≤◌, ◌^◌, ◌++◌, false, length, slice_index, vec_capacity, IfOk, IfErr, OnErr, IsTrue, IsSome};
+ghost use Rattle.std.specs.Prelude.{◌≡◌, ◌⊎◌, ◌↔◌, ◌+◌, ◌-◌, ◌<◌, ◌≤◌, ◌^◌, ◌++◌, false, length, vec_capacity, IfOk, IfErr, OnErr, IsTrue, IsSome};
 ghost use Rattle.std.specs.List.{prefix_len};
 ghost use Rattle.std.specs.Option.{is_none, option_to_list};
 ghost use Rattle.std.specs.Bool.{MatchBool};
 ghost use Rattle.link_base.specs.declared.limits.TheConstants.{LONGEST_RLC_SDU};
 ghost use Rattle.link_base.specs.SequenceNumbers.{window, Near};
-ghost use Rattle.rlc_pdu.specs.Amd.{amd_bytes};
 ghost use Rattle.rlc_status.specs.Format.{StatusFits};
-ghost use Rattle.rlc_model.specs.Pdu.{si_of};
 ghost use Rattle.rlc_model.specs.Tx.{empty_tx, tx_next, tx_next_ack, room, room_of, unconfirmed, header, PendingWaits, UnsentWaits, Gives, Grants};
 ghost use Rattle.rlc_model.specs.Retransmission.{IsBeyond, IsBeyondAt, HearsStatus};
 ghost use Rattle.rlc_model.specs.Calls.{Bears, ExpiresPollAs, GrantTakesMemory, Grows, StatusTakesMemory};
@@ -15,16 +13,16 @@ ghost use Rattle.rlc_rest.specs.Progress.{Progress, HoldsSdus};
 ghost use Rattle.rlc_am_tx.specs.Giving.{GivesBack};
 ghost use Rattle.rlc_am_tx.specs.Pieces.{IsNextPiece, IsInside};
 ghost use Rattle.rlc_am_tx.specs.Polling.{PollsWith};
-ghost use Rattle.rlc_am_tx.specs.Sending.{piece_of, SendsPiece, AddsPoll};
+ghost use Rattle.rlc_am_tx.specs.Sending.{SendsPiece};
 
 use crate::acknowledging::Acknowledged;
 use crate::beyond::is_beyond;
 use crate::buffer::TxBuffer;
 use crate::pieces::Piece;
 use crate::polling::Polling;
+use crate::sending::with_poll;
 use link_base::{Bytes, Expired, LocalId, Memory, NumberList, SnSize, Tag, near};
 use rlc_model::{StatusHeard, TagList, TxGrant};
-use rlc_pdu::{AmdView, Si, encode_amd};
 use rlc_status::Status;
 use std::alloc::Global;
 use std::marker::Model;
@@ -57,11 +55,11 @@ impl Model for AmTx {
 
     ghost Value = { Tx };
 
-    ghost use Rattle.rlc_am_tx.specs.Transmitter.{transmitter_of, GoesOnInside};
+    ghost use Rattle.rlc_am_tx.specs.Transmitter.{transmitter_of, IsTransmitterInside};
 
     ghost view = { transmitter_of };
 
-    ghost invariant = { GoesOnInside };
+    ghost invariant = { IsTransmitterInside };
 }
 
 impl AmTx {
@@ -256,7 +254,8 @@ impl AmTx {
         ensures ok { IfOk result (λ answer. HearsStatus self.old status.now answer self.new) }
         ensures err { OnErr result (self.new ≡ self.old) }
         ensures memory { OnErr result
-            (Grows self.old.size self.old.max_retx_threshold self.old.poll_owed self.old.kept status.now ack) }
+            (Grows self.old.size self.old.max_retx_threshold self.old.poll_owed self.old.kept
+            status.now ack) }
     {
         let Acknowledged { tags, mut marks } = self.buffer.acknowledge(
             self.size,
@@ -289,34 +288,13 @@ impl AmTx {
         ensures ok { IfOk result (λ bytes. SendsPiece self.old piece.now end bytes self.new) }
         ensures err { OnErr result (self.new ≡ self.old) }
     {
-        let bytes = self.encode(piece, end)?;
-        let fresh = end.saturating_sub(self.buffer.sent_len(piece.number));
-        self.buffer.mark_sent(piece, end)?;
-        if is_polled(&self.buffer, &self.polling, self.size, fresh) {
+        let sent = self.buffer.send(self.size, piece, end)?;
+        if is_polled(&self.buffer, &self.polling, self.size, sent.fresh) {
             self.polling.begin(self.buffer.sent_count() - 1);
-            return Ok(with_poll(bytes));
+            return Ok(with_poll(sent.bytes));
         }
-        self.polling.count(fresh);
-        Ok(bytes)
-    }
-
-    // The PDU of a piece up to `end`, without a poll.
-    fn encode(&self, piece: &Piece, end: usize) -> Result<Bytes, Memory>
-        requires inside { IsInside self.now.kept piece.now }
-        requires some { piece.now.from < end }
-        requires within { end ≤ piece.now.to }
-        ensures { IfOk result
-            (λ bytes. bytes ≡ amd_bytes self.now.size (piece_of self.now piece.now end false)) }
-    {
-        let pdu = AmdView {
-            sn: (piece.number % self.size.modulus()) as u32,
-            poll: false,
-            si: si_of(piece.from == 0, end == self.buffer.sdu_len(piece.number)),
-            so: piece.from as u16,
-            body: self.buffer.bytes(piece.number, piece.from, end),
-        };
-        let bytes = encode_amd(self.alloc, self.size, &pdu)?;
-        Ok(bytes)
+        self.polling.count(sent.fresh);
+        Ok(sent.bytes)
     }
 }
 
@@ -344,19 +322,6 @@ fn is_polled(buffer: &TxBuffer, polling: &Polling, size: SnSize, fresh: usize) -
     room_of(buffer, size) == 0 || !buffer.pending_waits()
 }
 
-// The SI of a segment, by whether it has the first and whether it has the last byte of its SDU (TS 38.322 clause
-// 6.2.3.4).
-fn si_of(first: bool, last: bool) -> Si
-    ensures { result ≡ si_of first last }
-{
-    match (first, last) {
-        (true, true) => Si::Whole,
-        (true, false) => Si::First,
-        (false, true) => Si::Last,
-        (false, false) => Si::Middle,
-    }
-}
-
 // How many octets the header of a PDU has that begins at this place of its SDU (TS 38.322 clause 6.2.2.4).
 fn header_len(size: SnSize, from: usize) -> u32
     ensures { result ≡ header size from }
@@ -366,17 +331,6 @@ fn header_len(size: SnSize, from: usize) -> u32
         SnSize::S18 => 3,
     };
     if from > 0 { with_sn + 2 } else { with_sn }
-}
-
-// The same PDU with a poll: P is bit 6 of the first octet (TS 38.322 clause 6.2.3.7).
-fn with_poll(bytes: Bytes) -> Bytes
-    requires some { 0 < length bytes }
-    requires unset { slice_index bytes 0 < 192 }
-    ensures { AddsPoll bytes result }
-{
-    let mut octets = bytes.into_vec();
-    octets[0] += 0x40;
-    Bytes::from_vec(octets)
 }
 
 // Adds a number, where there is one, for which there is room.

@@ -1,6 +1,5 @@
 // STATUS PDUs that speak of what was not sent.
-ghost use Rattle.std.specs.Prelude.{◌≡◌, ◌↔◌, ◌≤◌, ◌^◌, IsTrue};
-ghost use Rattle.std.specs.Bool.{MatchBool};
+ghost use Rattle.std.specs.Prelude.{◌↔◌, ◌≤◌, ◌^◌, IsTrue};
 ghost use Rattle.rlc_status.specs.Format.{NackFits, AllFit};
 ghost use Rattle.rlc_status.specs.Says.{Some_has};
 ghost use Rattle.rlc_model.specs.Retransmission.{SpeaksBeyond};
@@ -31,8 +30,7 @@ pub(crate) fn is_beyond(buffer: &TxBuffer, size: SnSize, ack: u64, status: &Stat
 fn any_wrong(buffer: &TxBuffer, size: SnSize, ack: u64, nacks: &[Nack]) -> bool
     requires fits { AllFit size nacks.now }
     requires small { ack ≤ 2 ^ 62 }
-    ensures { MatchBool result (Some_has (IsWrong size buffer.now ack) nacks.now)
-        (Some_has (IsWrong size buffer.now ack) nacks.now → ⊥) }
+    ensures { IsTrue result ↔ Some_has (IsWrong size buffer.now ack) nacks.now }
 {
     for nack in nacks {
         if is_wrong(buffer, size, ack, nack) {
@@ -46,8 +44,7 @@ fn any_wrong(buffer: &TxBuffer, size: SnSize, ack: u64, nacks: &[Nack]) -> bool
 fn is_wrong(buffer: &TxBuffer, size: SnSize, ack: u64, nack: &Nack) -> bool
     requires fits { NackFits size nack.now }
     requires small { ack ≤ 2 ^ 62 }
-    ensures { MatchBool result (IsWrong size buffer.now ack nack.now)
-        (IsWrong size buffer.now ack nack.now → ⊥) }
+    ensures { IsTrue result ↔ IsWrong size buffer.now ack nack.now }
 {
     let Some(first) = greatest(nack.sn, ack, size) else {
         return true;

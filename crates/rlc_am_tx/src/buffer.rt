@@ -1,9 +1,10 @@
 // The SDUs that are not confirmed, by number.
-ghost use Rattle.std.specs.Prelude.{◌≡◌, ◌≢◌, ◌⊎◌, ◌↔◌, ◌-◌, ◌+◌, ◌*◌, ◌<◌, ◌≤◌, ◌^◌, ℕ, [], ◌∷◌, ◌++◌, None, Some, true, false, vec_capacity, not, length, take, drop, count_by, is_some, IfSome, IfNone, IfOk, OnOk, OnErr, IfErr, IsTrue};
+ghost use Rattle.std.specs.Prelude.{◌≡◌, ◌≢◌, ◌⊎◌, ◌↔◌, ◌-◌, ◌+◌, ◌*◌, ◌<◌, ◌≤◌, ◌^◌, ℕ, [], ◌∷◌, ◌++◌, None, Some, true, false, vec_capacity, not, length, count_by, is_some, IfSome, IfNone, IfOk, OnOk, OnErr, IfErr, IsTrue};
 ghost use Rattle.std.specs.List.{prefix_len};
 ghost use Rattle.std.specs.Option.{is_none};
 ghost use Rattle.std.specs.Bool.{MatchBool};
 ghost use Rattle.link_base.specs.declared.limits.TheConstants.{LONGEST_RLC_SDU};
+ghost use Rattle.rlc_pdu.specs.Amd.{amd_bytes};
 ghost use Rattle.rlc_status.specs.Format.{AllFit};
 ghost use Rattle.rlc_status.specs.Says.{Some_has, NamesNumber};
 ghost use Rattle.rlc_model.specs.Tx.{at, is_unsent, SomePending, SomeUnsent, IsBegunCount};
@@ -12,12 +13,14 @@ ghost use Rattle.rlc_am_tx.specs.Buffer.{BearsOne, BearsIn, NonePending, NoneUns
 ghost use Rattle.rlc_am_tx.specs.Retransmitting.{RetransmitsKept, RetransmitsLowestOf};
 ghost use Rattle.rlc_am_tx.specs.Elements.{PassesAck};
 ghost use Rattle.rlc_am_tx.specs.Acknowledging.{UpdatesAll};
-ghost use Rattle.rlc_am_tx.specs.Pieces.{IsPendingPiece, IsUnsentPiece, IsNextPiece, IsInside, MarksSent, MarksKept, MovesUnsent};
+ghost use Rattle.rlc_am_tx.specs.Pieces.{IsPendingPiece, IsUnsentPiece, IsNextPiece, IsInside, MarksSent, MovesUnsent};
+ghost use Rattle.rlc_am_tx.specs.Sending.{plain_piece};
 
 use crate::acknowledging::{Acknowledged, leave_all, leave_idle, plan, pop_confirmed, settle_all};
 use crate::kept_sdu::KeptSdu;
 use crate::naming::{Naming, forget_all, make_room};
 use crate::pieces::{Piece, pending_piece};
+use crate::sending::{SentPiece, send_piece};
 use byte_spans::Spans;
 use link_base::{Bytes, LocalId, Memory, SnSize, Tag};
 use rlc_status::Status;
@@ -96,7 +99,7 @@ impl TxBuffer {
 
     /// Whether an SDU's tag has this local identity.
     pub(crate) fn bears(&self, ue: LocalId) -> bool
-        ensures { MatchBool result (BearsIn self.now ue) (BearsIn self.now ue → ⊥) }
+        ensures { IsTrue result ↔ BearsIn self.now ue }
     {
         for index in 0..self.kept_sdus.len() {
             if bears_one(&self.kept_sdus[index], ue) {
@@ -191,42 +194,30 @@ impl TxBuffer {
         }
     }
 
-    /// How many bytes an SDU has, or 0 where it is confirmed.
-    pub(crate) fn sdu_len(&self, number: u64) -> usize
-        ensures { result ≡ length (sdu_of (at self.now number)) }
-    {
-        match self.kept_sdu(number) {
-            Some(kept_sdu) => kept_sdu.sdu_len(),
-            None => 0,
-        }
-    }
-
-    /// The bytes of an SDU from `from` up to but without `to`.
-    pub(crate) fn bytes(&self, number: u64, from: usize, to: usize) -> &[u8]
-        requires order { from < to }
-        requires within { to ≤ length (sdu_of (at self.now number)) }
-        ensures { result.now ≡ take (to - from) (drop from (sdu_of (at self.now number))) }
-    {
-        let Some(kept_sdu) = self.kept_sdu(number) else {
-            unreachable!()
-        };
-        kept_sdu.bytes(from, to)
-    }
-
-    /// The bytes of a piece before `end` are sent now. After an `Err` nothing changed.
-    pub(crate) fn mark_sent(&mut self, piece: &Piece, end: usize) -> Result<(), Memory>
+    /// Sends the bytes of a piece before `end`. After an `Err` nothing changed.
+    pub(crate) fn send(
+        &mut self,
+        size: SnSize,
+        piece: &Piece,
+        end: usize,
+    ) -> Result<SentPiece, Memory>
         requires next { IsNextPiece self.old piece.now }
+        requires inside { IsInside self.old piece.now }
         requires some { piece.now.from < end }
         requires within { end ≤ piece.now.to }
         ensures ok { OnOk result (MarksSent self.old piece.now.number piece.now.from end self.new) }
+        ensures spelt { IfOk result (λ sent. sent.bytes
+            ≡ amd_bytes size (plain_piece size (at self.old piece.now.number) piece.now end)) }
+        ensures fresh { IfOk result
+            (λ sent. sent.fresh ≡ end - sent_of (at self.old piece.now.number)) }
         ensures few { OnOk result (all_sent self.new ≤ LONGEST_RLC_SDU * 2 ^ 62) }
         ensures err { OnErr result (self.new ≡ self.old) }
     {
         let index = (piece.number - self.next_ack) as usize;
-        let whole = mark_kept(&mut self.kept_sdus[index], piece.from, end)?;
-        self.unsent = unsent_behind(self.unsent, piece.number, whole);
+        let sent = send_piece(self.alloc, size, &mut self.kept_sdus[index], piece, end)?;
+        self.unsent = unsent_behind(self.unsent, piece.number, sent.whole);
         leave_idle(&mut self.waiting, piece.number, &self.kept_sdus[index]);
-        Ok(())
+        Ok(sent)
     }
 
     /// Where no byte waits and there is an SDU, all bytes of the lowest one become pending (TS 38.322 clause 5.3.3.4).
@@ -256,8 +247,7 @@ impl TxBuffer {
 
     /// Whether a number has an SDU that has no byte at this place.
     pub(crate) fn is_past(&self, number: u64, place: usize) -> bool
-        ensures { MatchBool result (EndsBy self.now number place)
-            (EndsBy self.now number place → ⊥) }
+        ensures { IsTrue result ↔ EndsBy self.now number place }
     {
         match self.kept_sdu(number) {
             Some(kept_sdu) => kept_sdu.sdu_len() <= place,
@@ -284,7 +274,8 @@ impl TxBuffer {
             → (Some_has (λ e. NamesNumber size ack e n) status.now.nacks → ⊥)
             → is_unsent (at self.old n) ≡ false }
         ensures ok { IfOk result
-            (λ told. UpdatesAll size threshold ack status.now self.old told.tags.items told.marks.items self.new) }
+            (λ told. UpdatesAll size threshold ack status.now self.old told.tags.items told.marks.items
+            self.new) }
         ensures room { IfOk result
             (λ told. poll_owed ≡ true → NonePending self.new → NoneUnsent self.new
             → prefix_len is_none self.new < length self.new
@@ -314,8 +305,14 @@ impl TxBuffer {
             leave_all(&self.kept_sdus, count, base, &mut self.waiting);
             return Err(Memory);
         }
-        settle_all(&mut self.kept_sdus, &mut self.names, count, threshold);
-        leave_all(&self.kept_sdus, count, base, &mut self.waiting);
+        settle_all(
+            &mut self.kept_sdus,
+            &mut self.names,
+            base,
+            count,
+            threshold,
+            &mut self.waiting,
+        );
         self.unconfirmed -= told.tags.len() as u64;
         self.next_ack += pop_confirmed(&mut self.kept_sdus) as u64;
         Ok(told)
@@ -377,28 +374,12 @@ impl TxBuffer {
 
 // Whether the tag of an SDU has this local identity.
 fn bears_one(kept_sdu: &Option<KeptSdu>, ue: LocalId) -> bool
-    ensures { MatchBool result (BearsOne kept_sdu.now ue) (BearsOne kept_sdu.now ue → ⊥) }
+    ensures { IsTrue result ↔ BearsOne kept_sdu.now ue }
 {
     let Some(kept_sdu) = kept_sdu else {
         return false;
     };
     kept_sdu.tag().ue == Some(ue)
-}
-
-// The bytes of an SDU from `from` up to but without `to` are sent now. It answers whether all bytes of the SDU are.
-fn mark_kept(kept_sdu: &mut Option<KeptSdu>, from: usize, to: usize) -> Result<bool, Memory>
-    requires some { kept_sdu.old ≢ None }
-    requires order { from < to }
-    requires long { to ≤ LONGEST_RLC_SDU }
-    ensures ok { OnOk result (MarksKept kept_sdu.old from to kept_sdu.new) }
-    ensures whole { IfOk result (λ whole. whole ≡ not (is_unsent kept_sdu.new)) }
-    ensures err { OnErr result (kept_sdu.new ≡ kept_sdu.old) }
-{
-    let Some(kept_sdu) = kept_sdu else {
-        unreachable!()
-    };
-    kept_sdu.mark_sent(from as u32, to as u32)?;
-    Ok(!kept_sdu.is_unsent())
 }
 
 // The lowest number with unsent bytes once an SDU was sent further, by whether all its bytes were sent.

@@ -1,6 +1,5 @@
 // What the elements of a STATUS PDU name.
-ghost use Rattle.std.specs.Prelude.{◌≡◌, ◌↔◌, ◌+◌, ◌<◌, ◌≤◌, ◌^◌, ℕ, IfSome, IfNone};
-ghost use Rattle.std.specs.Bool.{MatchBool};
+ghost use Rattle.std.specs.Prelude.{◌≡◌, ◌↔◌, ◌+◌, ◌<◌, ◌≤◌, ◌^◌, ℕ, IfSome, IfNone, IsTrue};
 ghost use Rattle.link_base.specs.SequenceNumbers.{modulus};
 ghost use Rattle.rlc_status.specs.Format.{NackFits, AllFit};
 ghost use Rattle.rlc_status.specs.Says.{IsGreatest, count, starts_by, ends_behind, Some_has, NamesNumber};
@@ -65,8 +64,7 @@ pub(crate) fn count_of(nack: &Nack) -> u64
 pub(crate) fn names(size: SnSize, ack: u64, nacks: &[Nack], number: u64) -> bool
     requires fits { AllFit size nacks.now }
     requires small { ack ≤ 2 ^ 62 }
-    ensures { MatchBool result (Some_has (λ e. NamesNumber size ack e number) nacks.now)
-        (Some_has (λ e. NamesNumber size ack e number) nacks.now → ⊥) }
+    ensures { IsTrue result ↔ Some_has (λ e. NamesNumber size ack e number) nacks.now }
 {
     for nack in nacks {
         if names_number(size, ack, nack, number) {
@@ -79,8 +77,7 @@ pub(crate) fn names(size: SnSize, ack: u64, nacks: &[Nack], number: u64) -> bool
 fn names_number(size: SnSize, ack: u64, nack: &Nack, number: u64) -> bool
     requires fits { NackFits size nack.now }
     requires small { ack ≤ 2 ^ 62 }
-    ensures { MatchBool result (NamesNumber size ack nack.now number)
-        (NamesNumber size ack nack.now number → ⊥) }
+    ensures { IsTrue result ↔ NamesNumber size ack nack.now number }
 {
     match greatest(nack.sn, ack, size) {
         Some(first) => first <= number && number < first + count_of(nack),

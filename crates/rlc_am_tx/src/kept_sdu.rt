@@ -1,10 +1,13 @@
 // An SDU that is not confirmed.
-ghost use Rattle.std.specs.Prelude.{◌≡◌, ◌<◌, ◌≤◌, ◌-◌, ◌+◌, ℕ, [], false, None, Some, length, take, drop, is_some, slice_index_or, IfSome, IfNone, OnOk, OnErr, ◌↔◌, IsTrue};
+ghost use Rattle.std.specs.Prelude.{◌≡◌, ◌<◌, ◌≤◌, ◌-◌, ◌+◌, ℕ, [], false, None, Some, length, take, drop, slice_index_or, IfSome, IfNone, OnOk, OnErr};
+ghost use Rattle.std.specs.Bool.{MatchBool};
 ghost use Rattle.link_base.specs.declared.limits.TheConstants.{LONGEST_RLC_SDU};
 ghost use Rattle.byte_spans.specs.Spans.{IsEmpty};
 ghost use Rattle.rlc_model.specs.Numbers.{IsFirstRun};
 ghost use Rattle.rlc_model.specs.Tx.{is_unsent, Clears};
-ghost use Rattle.rlc_am_tx.specs.Flags.{flags_with, counted, comes_to, FitsSent};
+ghost use Rattle.rlc_am_tx.specs.Buffer.{IsPending, IsIdle};
+ghost use Rattle.rlc_am_tx.specs.Flags.{counted, comes_to, FitsSent};
+ghost use Rattle.rlc_am_tx.specs.Acknowledging.{renewed};
 ghost use Rattle.rlc_am_tx.specs.Naming.{IsNamingOf, NamesMore, CanName};
 ghost use Rattle.rlc_am_tx.specs.Elements.{HasPlace};
 ghost use Rattle.rlc_am_tx.specs.Retransmitting.{RetransmitsAll};
@@ -98,6 +101,12 @@ impl KeptSdu {
         self.pending.first()
     }
 
+    pub(crate) fn has_pending(&self) -> bool
+        ensures { MatchBool result (IsPending (Some self.now)) (IsIdle (Some self.now)) }
+    {
+        self.first_pending().is_some()
+    }
+
     /// The bytes from `from` up to but without `to` are sent now, and none of them is pending any more. After an `Err`
     /// nothing changed.
     pub(crate) fn mark_sent(&mut self, from: u32, to: u32) -> Result<(), Memory>
@@ -153,7 +162,7 @@ impl KeptSdu {
     /// them wasn't.
     pub(crate) fn renew(&mut self, pending: Option<Spans>, threshold: u8)
         requires { FitsSent self.old pending }
-        ensures { self.new ≡ record self.old { flags = flags_with self.old pending; retx_count = counted threshold self.old.retx_count (is_some pending) } }
+        ensures { self.new ≡ renewed threshold self.old pending }
     {
         self.retx_count = counted(self.retx_count, pending.is_some(), threshold);
         if let Some(pending) = pending {

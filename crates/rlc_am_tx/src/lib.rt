@@ -10,6 +10,7 @@ mod kept_sdu;
 mod naming;
 mod pieces;
 mod polling;
+mod sending;
 
 pub use am_tx::{AmTx, GiveFault};
 pub use rlc_model::{StatusHeard, TagList, TxGrant};

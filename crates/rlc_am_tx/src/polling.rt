@@ -16,10 +16,10 @@ pub(crate) struct Polling {
 }
 
 impl Polling {
-    ghost use Rattle.rlc_am_tx.specs.Polling.{PollIsDue, polled, unpolled, expired, StopsBelow};
+    ghost use Rattle.rlc_am_tx.specs.Polling.{PollIsDue, initial, polled, unpolled, expired, StopsBelow};
 
     pub(crate) fn new(poll_pdu: u32, poll_byte: u32) -> Self
-        ensures { result ≡ record { poll_pdu = poll_pdu; poll_byte = poll_byte; pdu_without_poll = 0; byte_without_poll = 0; poll_sn = None; poll_owed = false; poll_retransmit_runs = false } }
+        ensures { result ≡ initial poll_pdu poll_byte }
     {
         Polling {
             poll_pdu,

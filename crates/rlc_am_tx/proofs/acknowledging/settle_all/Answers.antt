@@ -1,10 +1,14 @@
-use Rattle.std.proofs.Common.{◌≡◌, inl, inr, ◌<◌, length, set, Option, None, sym, ◌∙◌, ap, subst, arith, get_or-set_same, get_or-set_other}
+use Rattle.std.proofs.Common.{◌≡◌, inl, inr, ◌+◌, ◌<◌, true, length, set, Option, None, sym, ◌∙◌, ap, subst, arith, get_or-set_same, get_or-set_other}
+use Rattle.std.specs.Ordering.{nat_cmp}
+use Rattle.std.specs.BTreeSet.{contains}
 use Rattle.std.proofs.lemmas.Bool.{cases_eq}
 use Rattle.std.proofs.lemmas.List.{length-set, get_or_default}
 use Rattle.rlc_model.specs.Tx.{Kept, at}
 use Rattle.rlc_am_tx.specs.declared.naming.Naming.{Naming}
-use Rattle.rlc_am_tx.specs.Acknowledging.{settled}
+use Rattle.rlc_am_tx.specs.Acknowledging.{settled, MayWait}
+use Rattle.rlc_am_tx.specs.Buffer.{IsPending}
 use Rattle.rlc_am_tx.specs.Naming.{not_named, named_at, IsNamingOf}
+use Rattle.rlc_am_tx.proofs.Waiting.{waits_next, waits_same}
 use Rattle.rlc_am_tx.proofs.acknowledging.settle_all.Goals as goal
 
 pub index_mut-requires : goal.index_mut-requires
@@ -17,7 +21,10 @@ settle-requires c =
     let names = c.loop-index.names.items in
     let kept_sdu : c.index_mut.result.now ≡ at c.args.kept_sdus.now.items i = c.index_mut.ensures.value ∙ sym (get_or_default kept_sdus i None c.index_mut.result.now (omega (arith, c.requires.kept_sdus, c.loop-index.invariant.long))) ∙ c.loop-index.invariant.rest i (omega arith) in
     let naming : c.index_mut-in-loop-index.result.now ≡ named_at c.args.names.now.items i = c.index_mut-in-loop-index.ensures.value ∙ sym (get_or_default names i not_named c.index_mut-in-loop-index.result.now (omega (arith, c.requires.names, c.loop-index.invariant.same))) ∙ c.loop-index.invariant.others i (omega arith) in
-    subst (λ (o : Option Kept). IsNamingOf o c.index_mut-in-loop-index.result.now) (sym kept_sdu) (subst (IsNamingOf (at c.args.kept_sdus.now.items i)) (sym naming) (c.requires.fits i))
+    record {
+      fits = subst (λ (o : Option Kept). IsNamingOf o c.index_mut-in-loop-index.result.now) (sym kept_sdu) (subst (IsNamingOf (at c.args.kept_sdus.now.items i)) (sym naming) (c.requires.fits i));
+      waits = λ waits. subst (λ (o : Option Kept). MayWait o c.index_mut-in-loop-index.result.now) (sym kept_sdu) (subst (MayWait (at c.args.kept_sdus.now.items i)) (sym naming) (c.requires.waits i c.loop-index-test.true ((c.loop-index.invariant.waiting (c.args.base + i)).0 waits).0));
+    }
 
 pub loop-index-preserved : goal.loop-index-preserved
 loop-index-preserved c =
@@ -45,4 +52,17 @@ loop-index-preserved c =
       ];
       others = λ j ge. get_or-set_other names i j x not_named (λ e. omega (arith, ge, e)) ∙ inv.others j (omega (arith, ge));
       same = length-set names i x ∙ inv.same;
+      waiting = waits_next (set kept_sdus i o) i c.args.base (λ m. contains nat_cmp c.args.waiting.now m ≡ true) (λ m. contains nat_cmp c.loop-index.waiting m ≡ true) (λ m. contains nat_cmp c.settle.new.waiting m ≡ true) o
+          (sym (get_or-set_same kept_sdus i o None in_kept))
+          (λ n. let w = inv.waiting n in (
+            λ waits. let h = w.0 waits in (h.0, λ j lt e. subst IsPending (sym (get_or-set_other kept_sdus i j o None (λ eq. omega (arith, lt, eq)))) (h.1 j lt e)),
+            λ h. w.1 (h.0, λ j lt e. subst IsPending (get_or-set_other kept_sdus i j o None (λ eq. omega (arith, lt, eq))) (h.1 j lt e)),
+          ))
+          c.settle.ensures.waiting;
     }
+
+pub returns-clause-waiting : goal.returns-clause-waiting
+returns-clause-waiting c n =
+    let w = c.loop-index.invariant.waiting n in
+    let same : c.loop-index.index ≡ c.args.count = omega arith in
+    (λ h. ((w.0 h).0, waits_same c.loop-index.kept_sdus.items c.loop-index.index c.args.count c.args.base n same (w.0 h).1), λ h. w.1 (h.0, waits_same c.loop-index.kept_sdus.items c.args.count c.loop-index.index c.args.base n (sym same) h.1))

@@ -1,6 +1,8 @@
-use Rattle.std.proofs.Common.{◌≡◌, ℕ, ◌<◌, ◌≤◌, length}
+use Rattle.std.proofs.Common.{◌≡◌, ◌↔◌, ℕ, ◌<◌, ◌≤◌, true, length}
+use Rattle.std.specs.Ordering.{nat_cmp}
+use Rattle.std.specs.BTreeSet.{contains}
 use Rattle.rlc_model.specs.Tx.{at}
-use Rattle.rlc_am_tx.specs.Acknowledging.{settled}
+use Rattle.rlc_am_tx.specs.Acknowledging.{settled, WaitsOn}
 use Rattle.rlc_am_tx.specs.Naming.{not_named, named_at}
 use Rattle.rlc_am_tx.proofs.acknowledging.settle_all.Given as goal
 
@@ -12,4 +14,5 @@ invariant-loop-index l = record {
   forgotten : (i : ℕ) → i < l.index → named_at l.names.items i ≡ not_named;
   others : (i : ℕ) → l.index ≤ i → named_at l.names.items i ≡ named_at l.initial.names.items i;
   same : length l.names.items ≡ length l.initial.names.items;
+  waiting : (n : ℕ) → contains nat_cmp l.waiting n ≡ true ↔ (contains nat_cmp l.initial.waiting n ≡ true) × WaitsOn l.kept_sdus.items l.index l.base n;
 }

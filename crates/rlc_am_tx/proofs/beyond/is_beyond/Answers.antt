@@ -1,5 +1,4 @@
-use Rattle.std.proofs.Common.{◌≡◌, List, false, nat_lt, subst, refl, sym, ◌∙◌, arith}
-use Rattle.std.specs.Bool.{MatchBool}
+use Rattle.std.proofs.Common.{◌≡◌, ◌↔◌, List, true, false, nat_lt, subst, refl, sym, ◌∙◌, arith}
 use Rattle.std.proofs.lemmas.Bool.{false≢true}
 use Rattle.std.proofs.lemmas.Bool.Decides.{nat_tests}
 use Rattle.rlc_status.specs.declared.status.Nack.{Nack}
@@ -14,7 +13,7 @@ returns-then-ack-sent_count c = (λ h. SpeaksBeyond.above c.sent_count.result c.
 
 pub returns-then-any_wrong : goal.returns-then-any_wrong
 returns-then-any_wrong c = (
-  λ h. wrong_beyond c.args.size c.args.buffer.now c.args.status.now c.args.ack (subst (λ (nacks : List Nack). Some_has (IsWrong c.args.size c.args.buffer.now c.args.ack) nacks) c.as_slice-nacks.ensures c.if-any_wrong.ensures),
+  λ h. wrong_beyond c.args.size c.args.buffer.now c.args.status.now c.args.ack (subst (λ (nacks : List Nack). Some_has (IsWrong c.args.size c.args.buffer.now c.args.ack) nacks) c.as_slice-nacks.ensures (c.if-any_wrong.ensures.0 refl)),
   λ b. refl,
 )
 
@@ -23,9 +22,9 @@ returns-then-unsent-ack c =
     let l = c.args.buffer.now in
     let u = c.unsent-unsent.result in
     named_is c.args.size l c.args.status.now c.args.ack u c.sent_count.result c.unsent-unsent.ensures c.sent_count.ensures.count c.if-ack-sent_count.false
-    (subst (λ (nacks : List Nack). Some_has (IsWrong c.args.size l c.args.ack) nacks → ⊥) c.as_slice-nacks.ensures c.if-any_wrong.ensures)
+    (subst (λ (nacks : List Nack). Some_has (IsWrong c.args.size l c.args.ack) nacks → ⊥) c.as_slice-nacks.ensures (λ wrong. false≢true (c.if-any_wrong.ensures.1 wrong)))
     c.names.result c.if-unsent-ack.true
-    (subst (λ (nacks : List Nack). MatchBool c.names.result (Some_has (λ e. NamesNumber c.args.size c.args.ack e u) nacks) (Some_has (λ e. NamesNumber c.args.size c.args.ack e u) nacks → ⊥)) c.as_slice-nacks.ensures c.names.ensures)
+    (subst (λ (nacks : List Nack). c.names.result ≡ true ↔ Some_has (λ e. NamesNumber c.args.size c.args.ack e u) nacks) c.as_slice-nacks.ensures c.names.ensures)
 
 pub returns-else-unsent-ack : goal.returns-else-unsent-ack
 returns-else-unsent-ack c =
@@ -34,5 +33,5 @@ returns-else-unsent-ack c =
     let b : nat_lt u c.args.ack ≡ false = grind (arith, nat_tests) in (
       λ h. absurd (false≢true (sym b ∙ h)),
       λ speaks. absurd (all_sent c.args.size l c.args.status.now c.args.ack u c.sent_count.result c.unsent-unsent.ensures c.sent_count.ensures.count c.if-ack-sent_count.false
-          (subst (λ (nacks : List Nack). Some_has (IsWrong c.args.size l c.args.ack) nacks → ⊥) c.as_slice-nacks.ensures c.if-any_wrong.ensures) c.if-unsent-ack.false speaks),
+          (subst (λ (nacks : List Nack). Some_has (IsWrong c.args.size l c.args.ack) nacks → ⊥) c.as_slice-nacks.ensures (λ wrong. false≢true (c.if-any_wrong.ensures.1 wrong))) c.if-unsent-ack.false speaks),
     )

@@ -1,6 +1,6 @@
-use Rattle.std.proofs.Common.{◌≡◌, ◌<◌, ◌-◌, inl, inr, ℕ, sym, ◌∙◌, ap, arith}
+use Rattle.std.proofs.Common.{◌<◌, ◌-◌, inl, inr, ℕ, ◌∙◌, ap, arith}
 use Rattle.std.proofs.lemmas.Bool.{both_ways, cases_lt}
-use Rattle.byte_spans.specs.Spans.{has, Has}
+use Rattle.byte_spans.specs.Spans.{has}
 use Rattle.rlc_am_rx.specs.Assembly.{got_of_pieces}
 use Rattle.rlc_am_rx.proofs.Held.{seen_is, some_here, none_here, end_short}
 use Rattle.rlc_am_rx.proofs.Writing.{gaps_so_far, gaps_on, gaps_inner}

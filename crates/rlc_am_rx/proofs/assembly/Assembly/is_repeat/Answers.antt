@@ -1,6 +1,6 @@
 use Rattle.rlc_pdu.specs.Amd.{amd_of}
 use Rattle.rlc_am_rx.specs.Assembly.{got_of_pieces}
-use Rattle.rlc_am_rx.proofs.Held.{seen_is, repeat_is, tells_length}
+use Rattle.rlc_am_rx.proofs.Held.{seen_is, repeat_is}
 use Rattle.rlc_am_rx.proofs.assembly.Assembly.is_repeat.Goals as goal
 
 pub returns : goal.returns

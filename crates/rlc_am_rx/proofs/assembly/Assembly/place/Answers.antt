@@ -1,5 +1,5 @@
-use Rattle.std.proofs.Common.{◌≡◌, ◌∙◌, ap, sym, subst, cond, Bool, List, ℕ, Option, Some, None, get_or}
-use Rattle.byte_spans.specs.Spans.{Has, Adds}
+use Rattle.std.proofs.Common.{◌∙◌, ap, subst, cond, Bool, List, ℕ, Option, Some}
+use Rattle.byte_spans.specs.Spans.{Adds}
 use Rattle.rlc_pdu.specs.Amd.{amd_of}
 use Rattle.rlc_model.specs.Pdu.{end_of, is_end}
 use Rattle.rlc_am_rx.specs.Assembly.{Pieces, got_of_pieces, bytes_held, WritesBytes}

@@ -1,4 +1,3 @@
-use Rattle.std.proofs.Common.{sym, ◌∙◌}
 use Rattle.std.proofs.lemmas.Map.Keys.{IsStrictlyIncreasing-from_sorted}
 use Rattle.rlc_am_rx.proofs.Numbers.{adds}
 use Rattle.rlc_am_rx.proofs.polling.DelayedPolls.add_if.Goals as goal

@@ -1,4 +1,4 @@
-use Rattle.std.proofs.Common.{ap, sym, subst, ◌∙◌}
+use Rattle.std.proofs.Common.{ap, sym, subst}
 use Rattle.std.proofs.lemmas.Bool.{both_ways}
 use Rattle.rlc_pdu.specs.Amd.{amd_of}
 use Rattle.rlc_am_rx.specs.Assembly.{got_of_pieces}

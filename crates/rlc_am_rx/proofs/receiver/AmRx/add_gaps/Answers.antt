@@ -1,5 +1,4 @@
 use Rattle.std.proofs.Common.{◌∙◌, ap, sym, subst}
-use Rattle.rlc_model.specs.Rx.{Got}
 use Rattle.rlc_am_rx.specs.Assembly.{Pieces, got_of_pieces}
 use Rattle.rlc_am_rx.specs.Elements.{PlacesFit}
 use Rattle.rlc_am_rx.specs.Reassembly.{got_of}

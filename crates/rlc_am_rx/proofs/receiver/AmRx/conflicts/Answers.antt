@@ -1,5 +1,4 @@
 use Rattle.std.proofs.Common.{◌∙◌, ap}
-use Rattle.rlc_am_rx.specs.Assembly.{got_of_pieces}
 use Rattle.rlc_am_rx.specs.Reassembly.{got_of}
 use Rattle.rlc_am_rx.proofs.receiver.AmRx.conflicts.Goals as goal
 

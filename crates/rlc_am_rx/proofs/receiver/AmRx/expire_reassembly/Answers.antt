@@ -1,7 +1,6 @@
-use Rattle.std.proofs.Common.{◌≡◌, ◌≤◌, ◌+◌, ◌-◌, inl, inr, ℕ, true, List, Contains, ap, sym, subst, ◌∙◌, arith}
-use Rattle.std.specs.Bool.{MatchBool}
+use Rattle.std.proofs.Common.{◌≡◌, ◌+◌, inl, inr, ℕ, true, List, Contains, ap, sym, subst, ◌∙◌, arith}
 use Rattle.std.proofs.lemmas.Option.{none-some, same_Some}
-use Rattle.rlc_model.specs.Rx.{Rx, Got, got, HasGap, ExpiresReassembly}
+use Rattle.rlc_model.specs.Rx.{Rx, got, ExpiresReassembly}
 use Rattle.rlc_law.specs.Receiver.{IsSound}
 use Rattle.rlc_law.specs.Receiver.ReceiverCall.{expires_reassembly}
 use Rattle.rlc_law.proofs.Receiver.{stays_sound}
@@ -28,8 +27,7 @@ expires c =
       trigger = c.in-Some.trigger;
       runs = ap (λ (r : Rx). r.rx_next_status_trigger) (sym c.self.view_is) ∙ c.in-Some.is;
       highest_status = first_at a r i.entries c.self.view_is c.in-Some.trigger at (i.trigger c.in-Some.trigger c.in-Some.is) first.after first.before first.here;
-      reassembly = starts_again r (a.rx_next + at) a.rx_next_highest c.has_gap.result c.trigger_from-self-inside.result (sym (highest_at a r i c.self.view_is))
-          (subst (λ (g : Got). MatchBool c.has_gap.result (HasGap g) (HasGap g → ⊥)) (sym here) c.has_gap.ensures) c.trigger_from-self-inside.ensures;
+      reassembly = starts_again r (a.rx_next + at) a.rx_next_highest (got_at a.entries.items at) c.trigger_from-self-inside.result (sym (highest_at a r i c.self.view_is)) (sym here) c.trigger_from-self-inside.ensures;
       is = ap (λ (r : Rx). record r { rx_highest_status = a.rx_next + at; status_triggered = true; rx_next_status_trigger = c.trigger_from-self-inside.result; delayed_polls = c.take_below.new.self }) c.self.view_is;
       delays = λ k. (
         λ h. let d = (drops k).0 h in (

@@ -5,7 +5,7 @@ use Rattle.link_base.specs.SequenceNumbers.{window}
 use Rattle.rlc_pdu.specs.Amd.{amd_of}
 use Rattle.std.specs.Bool.{MatchBool}
 use Rattle.rlc_model.specs.Numbers.{IsFirst}
-use Rattle.rlc_model.specs.Rx.{Rx, Got, got, rx_next, rx_next_highest, HasGap, IsConflict, Polls, Reassembles}
+use Rattle.rlc_model.specs.Rx.{Rx, Got, got, rx_next, rx_next_highest, IsConflict, Polls, Reassembles}
 use Rattle.rlc_model.specs.Rx.Got.{Done, Part}
 use Rattle.rlc_law.specs.Receiver.{IsSound}
 use Rattle.rlc_law.specs.Receiver.ReceiverCall.{hears}
@@ -133,11 +133,9 @@ module _ (c : goal.After-answer_of) where
 
   reassembly : Reassembles c.args.self.now.rx_next_status_trigger (receiver_of (placed_inside c))
   reassembly = subst (λ (before : Option ℕ). Reassembles before (receiver_of (placed_inside c))) (ap (λ (r : Rx). r.rx_next_status_trigger) c.self.view_is)
-      (reassembles (receiver_of (placed_inside c)) c.self.inside.rx_next_status_trigger (c.self.inside.rx_next + c.pop_done.result) c.max-self-inside.result c.has_gap.result (sym next_new) (sym highest_new)
-      (subst (λ (g : Got). MatchBool c.has_gap.result (HasGap g) (HasGap g → ⊥))
+      (reassembles (receiver_of (placed_inside c)) c.self.inside.rx_next_status_trigger (c.self.inside.rx_next + c.pop_done.result) c.max-self-inside.result (got_at c.pop_done.new.entries.items 0) (sym next_new) (sym highest_new)
       (sym (got_is (c.self.inside.rx_next + c.pop_done.result) c.max-self-inside.result c.pop_done.new.entries.items fit_popped.spare (rx_next (receiver_of (placed_inside c))) (omega (arith, next_new))
       ∙ ap (got_at c.pop_done.new.entries.items) (omega (arith, next_new))))
-      c.has_gap.ensures)
       c.trigger_after-self-inside.ensures)
 
   polls_fit : (k : ℕ) → Contains c.add_if.new.self k → k < c.self.inside.rx_next + c.pop_done.result + window c.self.inside.size

@@ -1,4 +1,4 @@
-use Rattle.std.proofs.Common.{◌-◌, ◌%◌, ◌∙◌, ℕ, ap, refl, subst, arith}
+use Rattle.std.proofs.Common.{◌%◌, ◌∙◌, ℕ, ap, refl, subst, arith}
 use Rattle.link_base.specs.SequenceNumbers.{modulus}
 use Rattle.rlc_law.specs.Receiver.{IsSound}
 use Rattle.rlc_law.proofs.Elements.{written_status_is_true}

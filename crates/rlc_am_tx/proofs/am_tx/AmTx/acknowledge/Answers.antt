@@ -12,7 +12,7 @@ use Rattle.rlc_am_tx.specs.Polling.{tx_with}
 use Rattle.rlc_am_tx.specs.Transmitter.{transmitter_of}
 use Rattle.rlc_am_tx.proofs.BeyondAll.{fine_below}
 use Rattle.rlc_am_tx.proofs.Failing.{on_err}
-use Rattle.rlc_am_tx.proofs.Going.{stay_goes, lowest_goes, stay_hears, lowest_hears, mark_idle, owed_stays}
+use Rattle.rlc_am_tx.proofs.Invariant.{stay_invariant, lowest_invariant, stay_hears, lowest_hears, mark_idle, owed_stays}
 use Rattle.rlc_am_tx.proofs.am_tx.AmTx.acknowledge.Goals as goal
 
 pub acknowledge-requires-clause-fits : goal.acknowledge-requires-clause-fits
@@ -60,7 +60,7 @@ invariant_of-self-then-not-self c =
     let tags = c.in_ok-tags.field-0.tags.items in
     let marks = c.in_ok-tags.field-0.marks.items in
     let p2 = c.stop_below.new.self in
-    stay_goes a.size th a.buffer l2 a.polling p2 c.args.ack st tags marks c.in_ok-tags.ensures.ok c.stop_below.ensures c.self.invariant c.in_ok-tags.ensures.sent fits
+    stay_invariant a.size th a.buffer l2 a.polling p2 c.args.ack st tags marks c.in_ok-tags.ensures.ok c.stop_below.ensures c.self.invariant c.in_ok-tags.ensures.sent fits
     (stay_hears a.size th a.buffer l2 a.polling p2 c.args.ack st tags marks c.in_ok-tags.ensures.ok c.stop_below.ensures fine near current c.if-not-self.true)
 
 pub returns-then-not-self-clause-ok : goal.returns-then-not-self-clause-ok
@@ -105,7 +105,7 @@ invariant_of-self-2 c =
     let p2 = c.stop_below.new.self in
     let lowest = option_to_list c.retransmit_lowest-lowest.result in
     let r = c.retransmit_lowest-lowest.ensures (tx_with a.size th l2 p2) refl refl in
-    lowest_goes a.size th a.buffer l2 a.polling p2 c.args.ack st tags marks c.in_ok-tags.ensures.ok c.stop_below.ensures c.self.invariant c.in_ok-tags.ensures.sent fits l3 lowest (marks ++ lowest) r
+    lowest_invariant a.size th a.buffer l2 a.polling p2 c.args.ack st tags marks c.in_ok-tags.ensures.ok c.stop_below.ensures c.self.invariant c.in_ok-tags.ensures.sent fits l3 lowest (marks ++ lowest) r
     (lowest_hears a.size th a.buffer l2 a.polling p2 c.args.ack st tags marks c.in_ok-tags.ensures.ok c.stop_below.ensures fine near current l3 lowest c.if-not-self.false r)
 
 pub returns-clause-ok : goal.returns-clause-ok

@@ -8,7 +8,7 @@ use Rattle.rlc_model.specs.Retransmission.{IsBeyond, beyond_at, SpeaksBeyond}
 use Rattle.rlc_model.specs.Calls.{StatusTakesMemory}
 use Rattle.rlc_am_tx.specs.Transmitter.{transmitter_of}
 use Rattle.rlc_am_tx.proofs.Failing.{on_err}
-use Rattle.rlc_am_tx.proofs.Going.{not_beyond}
+use Rattle.rlc_am_tx.proofs.Invariant.{not_beyond}
 use Rattle.rlc_am_tx.proofs.Order.{count_within}
 use Rattle.rlc_am_tx.proofs.am_tx.AmTx.hear_status.Goals as goal
 

@@ -10,7 +10,7 @@ use Rattle.rlc_model.specs.Calls.{Grows, wakes}
 use Rattle.rlc_am_tx.specs.Acknowledging.{UpdatesAll}
 use Rattle.rlc_am_tx.specs.Buffer.{kept_from, IsInOrder}
 use Rattle.rlc_am_tx.specs.Inside.{IsTidy}
-use Rattle.rlc_am_tx.proofs.Acked.{settled_tidy, unsettled_tidy, counted_tags, pop_list, was_idle, tags_or, more_acked}
+use Rattle.rlc_am_tx.proofs.Acked.{settled_tidy, unsettled_tidy, counted_tags, pop_list, may_wait, was_idle, tags_or, more_acked}
 use Rattle.rlc_am_tx.proofs.Numbers.{kept_front, kept_long}
 use Rattle.rlc_am_tx.proofs.Planned.{grows_more}
 use Rattle.rlc_am_tx.proofs.Settled.{updates}
@@ -67,13 +67,16 @@ returns-in-Err-clause-memory c = elim c.in-Err.ensures.err [
   | inr grows ↦ subst (λ (l : List (Option Kept)). Grows c.args.size c.args.threshold c.args.poll_owed l c.args.status.now c.args.ack) c.self.view_is (grows_more c.args.size c.args.threshold c.args.poll_owed (kept_from c.self.inside.next_ack c.self.inside.kept_sdus.items) c.args.status.now c.args.ack grows)
 ]
 
+pub settle_all-requires-clause-waits : goal.settle_all-requires-clause-waits
+settle_all-requires-clause-waits c i lt waits = may_wait c.self.inside.next_ack (c.args.ack - c.self.inside.next_ack) c.self.inside.kept_sdus.items c.plan.new.names.items (λ n. contains nat_cmp c.self.inside.waiting n ≡ true) (λ n. contains nat_cmp c.plan.new.waiting n ≡ true) c.self.invariant.tidy.waiting c.in_default.ensures.only i waits
+
 pub overflow_sub-self : goal.overflow_sub-self
 overflow_sub-self c =
     let from : c.self.inside.next_ack ≤ c.args.ack = omega (arith, kept_front c.self.inside.next_ack c.self.inside.kept_sdus.items c.self.invariant.tidy.front, ap (prefix_len is_none) c.self.view_is, c.requires.from) in
     let enough : c.args.ack ≤ c.self.inside.next_ack + length c.plan.new.names.items = omega (arith, kept_long c.self.inside.next_ack c.self.inside.kept_sdus.items, ap length c.self.view_is, c.requires.within, c.self.invariant.room, c.in_default.ensures.long) in
     let a = c.self.inside in
     let plan = c.in_default.ensures.ok in
-    omega (arith, c.len.ensures, counted_tags a.next_ack a.kept_sdus.items c.args.size c.args.ack c.args.threshold c.args.status.now c.plan.new.names.items c.plan.new.told.tags.items c.plan.new.told.marks.items plan c.settle_all.new.kept_sdus.items from enough c.settle_all.ensures.each c.settle_all.ensures.rest c.settle_all.ensures.long a.unconfirmed a.unsent (λ n. contains nat_cmp a.waiting n ≡ true) (λ n. contains nat_cmp c.plan.new.waiting n ≡ true) (λ n. contains nat_cmp c.leave_all-2.new.waiting n ≡ true) c.self.invariant.tidy c.in_default.ensures.enters c.in_default.ensures.kept c.in_default.ensures.only c.leave_all-2.ensures)
+    omega (arith, c.len.ensures, counted_tags a.next_ack a.kept_sdus.items c.args.size c.args.ack c.args.threshold c.args.status.now c.plan.new.names.items c.plan.new.told.tags.items c.plan.new.told.marks.items plan c.settle_all.new.kept_sdus.items from enough c.settle_all.ensures.each c.settle_all.ensures.rest c.settle_all.ensures.long a.unconfirmed a.unsent (λ n. contains nat_cmp a.waiting n ≡ true) (λ n. contains nat_cmp c.plan.new.waiting n ≡ true) (λ n. contains nat_cmp c.settle_all.new.waiting n ≡ true) c.self.invariant.tidy c.in_default.ensures.enters c.in_default.ensures.kept c.in_default.ensures.only c.settle_all.ensures.waiting)
 
 pub invariant_of-self-2 : goal.invariant_of-self-2
 invariant_of-self-2 c =
@@ -83,8 +86,8 @@ invariant_of-self-2 c =
     let base = a.next_ack in
     let few : c.len.result ≡ length c.plan.new.told.tags.items = omega (arith, c.len.ensures) in
     let sent : (n : ℕ) → n < c.args.ack → (Some_has (λ e. NamesNumber c.args.size c.args.ack e n) c.args.status.now.nacks → ⊥) → is_unsent (at (kept_from base a.kept_sdus.items) n) ≡ false = λ n lt none. ap (λ (l : List (Option Kept)). is_unsent (at l n)) c.self.view_is ∙ c.requires.sent n lt none in
-    let waits : ℕ → Type 0 = λ n. contains nat_cmp c.leave_all-2.new.waiting n ≡ true in
-    let tidy = settled_tidy base a.kept_sdus.items c.args.size c.args.ack c.args.threshold c.args.status.now c.plan.new.names.items c.plan.new.told.tags.items c.plan.new.told.marks.items c.in_default.ensures.ok c.settle_all.new.kept_sdus.items from enough c.settle_all.ensures.each c.settle_all.ensures.rest c.settle_all.ensures.long a.unconfirmed a.unsent (λ n. contains nat_cmp a.waiting n ≡ true) (λ n. contains nat_cmp c.plan.new.waiting n ≡ true) waits c.self.invariant.tidy c.in_default.ensures.enters c.in_default.ensures.kept c.in_default.ensures.only c.leave_all-2.ensures sent c.pop_confirmed.result c.pop_confirmed.new.kept_sdus.items c.pop_confirmed.ensures.kept c.pop_confirmed.ensures.front in
+    let waits : ℕ → Type 0 = λ n. contains nat_cmp c.settle_all.new.waiting n ≡ true in
+    let tidy = settled_tidy base a.kept_sdus.items c.args.size c.args.ack c.args.threshold c.args.status.now c.plan.new.names.items c.plan.new.told.tags.items c.plan.new.told.marks.items c.in_default.ensures.ok c.settle_all.new.kept_sdus.items from enough c.settle_all.ensures.each c.settle_all.ensures.rest c.settle_all.ensures.long a.unconfirmed a.unsent (λ n. contains nat_cmp a.waiting n ≡ true) (λ n. contains nat_cmp c.plan.new.waiting n ≡ true) waits c.self.invariant.tidy c.in_default.ensures.enters c.in_default.ensures.kept c.in_default.ensures.only c.settle_all.ensures.waiting sent c.pop_confirmed.result c.pop_confirmed.new.kept_sdus.items c.pop_confirmed.ensures.kept c.pop_confirmed.ensures.front in
     record {
       tidy = subst (λ m. IsTidy (base + c.pop_confirmed.result) c.pop_confirmed.new.kept_sdus.items (a.unconfirmed - m) a.unsent waits) (sym few) tidy;
       names = λ i. elim (cases_lt i (c.args.ack - base)) [ inl lt ↦ c.settle_all.ensures.forgotten i lt | inr ge ↦ c.settle_all.ensures.others i ge ∙ c.in_default.ensures.rest i (omega (arith, ge)) ];

@@ -1,4 +1,4 @@
--- A transmitter goes on, call by call.
+-- What holds of a transmitter, call by call.
 use Rattle.std.proofs.Common.{◌≡◌, inl, inr, ℕ, ◌+◌, ◌-◌, ◌<◌, ◌≤◌, true, false, List, [], ◌∷◌, ◌++◌, length, is_some, Option, Some, None, zero, suc, refl, sym, ◌∙◌, ap, subst, arith}
 use Rattle.std.specs.Option.{is_none, option_to_list}
 use Rattle.std.specs.List.{prefix_len}
@@ -25,19 +25,19 @@ use Rattle.rlc_am_tx.specs.Buffer.{NonePending, NoneUnsent, most_sent, all_sent}
 use Rattle.rlc_am_tx.specs.Pieces.{IsNextPiece}
 use Rattle.rlc_am_tx.specs.Polling.{StopsBelow, stops, runs_on, tx_with, expired}
 use Rattle.rlc_am_tx.specs.Sending.{SendsPiece}
-use Rattle.rlc_am_tx.specs.Transmitter.{GoesOn}
+use Rattle.rlc_am_tx.specs.Transmitter.{IsTransmitter}
 use Rattle.rlc_am_tx.proofs.Acked.{prefix_grows}
 use Rattle.rlc_am_tx.proofs.Numbers.{given, more_sent}
 use Rattle.rlc_am_tx.proofs.Retransmitted.{lowest_front}
 use Rattle.rlc_am_tx.proofs.Sent.{grant_sends}
 
--- a call leaves a transmitter that goes on
-goes : (old new : Tx) → GoesOn old → TransmitterCall old new → tx_next new ≤ tx_next_ack new + window new.size → new.pdu_without_poll ≤ new.byte_without_poll → new.byte_without_poll ≤ all_sent new.kept → GoesOn new
-goes old new g call within pdus bytes = let w = each_call old new g.whole g.progress call in record { within = within; pdus = pdus; bytes = bytes; whole = w.0; progress = w.1 }
+-- it holds behind a call
+call_invariant : (old new : Tx) → IsTransmitter old → TransmitterCall old new → tx_next new ≤ tx_next_ack new + window new.size → new.pdu_without_poll ≤ new.byte_without_poll → new.byte_without_poll ≤ all_sent new.kept → IsTransmitter new
+call_invariant old new g call within pdus bytes = let w = each_call old new g.whole g.progress call in record { within = within; pdus = pdus; bytes = bytes; whole = w.0; progress = w.1 }
 
 -- one that was given nothing
-pub new_goes : (size : SnSize) (poll_pdu poll_byte threshold : ℕ) → GoesOn (empty_tx size poll_pdu poll_byte threshold)
-new_goes size poll_pdu poll_byte threshold = record {
+pub new_invariant : (size : SnSize) (poll_pdu poll_byte threshold : ℕ) → IsTransmitter (empty_tx size poll_pdu poll_byte threshold)
+new_invariant size poll_pdu poll_byte threshold = record {
   within = omega arith;
   pdus = omega arith;
   bytes = omega arith;
@@ -55,11 +55,11 @@ front_grows (None ∷ l) x = omega (arith, front_grows l x)
 front_grows (Some k ∷ l) x = omega arith
 
 -- one that is given an SDU
-pub give_goes : (t : Tx) (tag : Tag) (sdu : List ℕ) → GoesOn t → 0 < room t → 0 < length sdu → GoesOn (record t { kept = t.kept ++ Some (record { tag = tag; sdu = sdu; flags = []; retx_count = None }) ∷ [] })
-give_goes t tag sdu g some full =
+pub give_invariant : (t : Tx) (tag : Tag) (sdu : List ℕ) → IsTransmitter t → 0 < room t → 0 < length sdu → IsTransmitter (record t { kept = t.kept ++ Some (record { tag = tag; sdu = sdu; flags = []; retx_count = None }) ∷ [] })
+give_invariant t tag sdu g some full =
     let k : Kept = record { tag = tag; sdu = sdu; flags = []; retx_count = None } in
     let new = record t { kept = t.kept ++ Some k ∷ [] } in
-    goes t new g (gives tag sdu (tx_next t) full (record { has_room = some; its_number = refl; is = refl }))
+    call_invariant t new g (gives tag sdu (tx_next t) full (record { has_room = some; its_number = refl; is = refl }))
     (omega (arith, length_push t.kept (Some k), front_grows t.kept (Some k), some))
     g.pdus
     (omega (arith, g.bytes, sum_by-append most_sent t.kept (Some k ∷ [])))
@@ -73,19 +73,19 @@ lowest_sent t marks new (RetransmitsLowest.retransmits r) = more_sent t.kept new
 ])
 
 -- one whose t-PollRetransmit runs out
-pub expire_goes : (size : SnSize) (threshold : ℕ) (l l' : List (Option Kept)) (p : Polling) (marks : List ℕ) → GoesOn (tx_with size threshold l p) → p.poll_retransmit_runs ≡ true → RetransmitsLowest (tx_with size threshold l (expired p)) marks (tx_with size threshold l' (expired p)) → GoesOn (tx_with size threshold l' (expired p))
-expire_goes size threshold l l' p marks g runs r =
+pub expire_invariant : (size : SnSize) (threshold : ℕ) (l l' : List (Option Kept)) (p : Polling) (marks : List ℕ) → IsTransmitter (tx_with size threshold l p) → p.poll_retransmit_runs ≡ true → RetransmitsLowest (tx_with size threshold l (expired p)) marks (tx_with size threshold l' (expired p)) → IsTransmitter (tx_with size threshold l' (expired p))
+expire_invariant size threshold l l' p marks g runs r =
     let old = tx_with size threshold l p in
     let mid = tx_with size threshold l (expired p) in
     let new = tx_with size threshold l' (expired p) in
     let front = lowest_front mid marks new r in
-    goes old new g (expires_poll marks (record { runs = runs; mid = mid; stopped = refl; lowest = r }))
+    call_invariant old new g (expires_poll marks (record { runs = runs; mid = mid; stopped = refl; lowest = r }))
     (omega (arith, front.0, front.1, g.within)) g.pdus (omega (arith, g.bytes, lowest_sent mid marks new r))
 
 -- one that sends a piece
-pub send_goes : (old : Tx) (piece : Piece) (end : ℕ) (bytes : List ℕ) (new : Tx) → GoesOn old → IsNextPiece old.kept piece → piece.from < end → end ≤ piece.to → SendsPiece old piece end bytes new → tx_next new ≤ tx_next_ack new + window new.size → new.pdu_without_poll ≤ new.byte_without_poll → new.byte_without_poll ≤ all_sent new.kept → GoesOn new
-send_goes old piece end bytes new g next some within s =
-    goes old new g (grants (header old.size piece.from + (end - piece.from)) (Sent piece.number bytes) (grant_sends old piece end (header old.size piece.from + (end - piece.from)) bytes new next (omega (arith, some)) (omega (arith, some, within)) s))
+pub send_invariant : (old : Tx) (piece : Piece) (end : ℕ) (bytes : List ℕ) (new : Tx) → IsTransmitter old → IsNextPiece old.kept piece → piece.from < end → end ≤ piece.to → SendsPiece old piece end bytes new → tx_next new ≤ tx_next_ack new + window new.size → new.pdu_without_poll ≤ new.byte_without_poll → new.byte_without_poll ≤ all_sent new.kept → IsTransmitter new
+send_invariant old piece end bytes new g next some within s =
+    call_invariant old new g (grants (header old.size piece.from + (end - piece.from)) (Sent piece.number bytes) (grant_sends old piece end (header old.size piece.from + (end - piece.from)) bytes new next (omega (arith, some)) (omega (arith, some, within)) s))
 
 -- the same tags are missing where SDUs are in the same places
 new_same : (xs ys zs : List (Option Kept)) → length ys ≡ length zs → ((n : ℕ) → is_none (at ys n) ≡ is_none (at zs n)) → confirmed_tags xs ys ≡ confirmed_tags xs zs
@@ -183,18 +183,18 @@ module _ (size : SnSize) (threshold : ℕ) (l l' : List (Option Kept)) (p p' : P
       lowest = (λ is. r, λ is. absurd (false≢true (sym is ∙ owed)));
     }
 
-  module _ (g : GoesOn old) (sent : all_sent l ≤ all_sent l') (fits : StatusFits size s) where
-    pub stay_goes : HearsStatus old s (Acked tags marks) mid → GoesOn mid
-    stay_goes h = goes old mid g (hears_status s (Acked tags marks) fits h)
+  module _ (g : IsTransmitter old) (sent : all_sent l ≤ all_sent l') (fits : StatusFits size s) where
+    pub stay_invariant : HearsStatus old s (Acked tags marks) mid → IsTransmitter mid
+    stay_invariant h = call_invariant old mid g (hears_status s (Acked tags marks) fits h)
         (omega (arith, u.long, g.within, prefix_grows l l' u.long none_stays))
         (omega (arith, g.pdus, mid_updates.pdu_without_poll, mid_updates.byte_without_poll))
         (omega (arith, g.bytes, mid_updates.byte_without_poll, sent))
 
-    pub lowest_goes : (l2 : List (Option Kept)) (lowest all : List ℕ) → RetransmitsLowest mid lowest (tx_with size threshold l2 p') → HearsStatus old s (Acked tags all) (tx_with size threshold l2 p') → GoesOn (tx_with size threshold l2 p')
-    lowest_goes l2 lowest all r h =
+    pub lowest_invariant : (l2 : List (Option Kept)) (lowest all : List ℕ) → RetransmitsLowest mid lowest (tx_with size threshold l2 p') → HearsStatus old s (Acked tags all) (tx_with size threshold l2 p') → IsTransmitter (tx_with size threshold l2 p')
+    lowest_invariant l2 lowest all r h =
         let new = tx_with size threshold l2 p' in
         let front = lowest_front mid lowest new r in
-        goes old new g (hears_status s (Acked tags all) fits h)
+        call_invariant old new g (hears_status s (Acked tags all) fits h)
         (omega (arith, front.0, front.1, u.long, g.within, prefix_grows l l' u.long none_stays))
         (omega (arith, g.pdus, mid_updates.pdu_without_poll, mid_updates.byte_without_poll))
         (omega (arith, g.bytes, mid_updates.byte_without_poll, sent, lowest_sent mid lowest new r))
