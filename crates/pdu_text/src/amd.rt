@@ -9,22 +9,17 @@ use crate::text::{push_body, push_refused};
 use link_base::{Memory, SnSize};
 use rlc_pdu::{AmdView, Si, decode_amd};
 use script_text::amd_fault_text;
-use std::alloc::{AllocError, Global};
+use std::alloc::AllocError;
 
 /// Adds the text of the AMD PDU that bytes spell, or that of their first fault. Answers whether they spell one.
-pub(crate) fn push_shown_amd(
-    alloc: Global,
-    out: &mut String,
-    size: SnSize,
-    bytes: &[u8],
-) -> Result<bool, Memory>
+pub(crate) fn push_shown_amd(out: &mut String, size: SnSize, bytes: &[u8]) -> Result<bool, Memory>
     ensures { IfOk result
         (λ read. AddsExplanation (Form.Amd size) bytes.now read (string_bytes out.old)
         (string_bytes out.new)) }
 {
     match decode_amd(size, bytes) {
         Ok(pdu) => {
-            push_amd(alloc, out, &pdu)?;
+            push_amd(out, &pdu)?;
             Ok(true)
         }
         Err(fault) => {
@@ -34,7 +29,7 @@ pub(crate) fn push_shown_amd(
     }
 }
 
-fn push_amd(alloc: Global, out: &mut String, pdu: &AmdView<'_>) -> Result<(), AllocError>
+fn push_amd(out: &mut String, pdu: &AmdView<'_>) -> Result<(), AllocError>
     ensures { OnOk result
         (string_bytes out.new ≡ string_bytes out.old ++ amd_text (amd_of pdu.now)) }
 {
@@ -43,7 +38,7 @@ fn push_amd(alloc: Global, out: &mut String, pdu: &AmdView<'_>) -> Result<(), Al
     let si = si_text(pdu.si);
     let so = pdu.so;
     write!(out, "amd sn {sn} poll {poll} si {si} so {so}")?;
-    push_body(alloc, out, pdu.body)
+    push_body(out, pdu.body)
 }
 
 /// The word for the part of an SDU that a PDU carries.

@@ -8,22 +8,17 @@ use crate::Form;
 use crate::text::{push_body, push_octets, push_refused};
 use link_base::{Memory, SnSize};
 use pdcp_pdu::{PdcpFault, PdcpView, decode_pdcp};
-use std::alloc::{AllocError, Global};
+use std::alloc::AllocError;
 
 /// Adds the text of the PDCP PDU that bytes spell, or that of their first fault. Answers whether they spell one.
-pub(crate) fn push_shown_pdcp(
-    alloc: Global,
-    out: &mut String,
-    size: SnSize,
-    bytes: &[u8],
-) -> Result<bool, Memory>
+pub(crate) fn push_shown_pdcp(out: &mut String, size: SnSize, bytes: &[u8]) -> Result<bool, Memory>
     ensures { IfOk result
         (λ read. AddsExplanation (Form.Pdcp size) bytes.now read (string_bytes out.old)
         (string_bytes out.new)) }
 {
     match decode_pdcp(size, bytes) {
         Ok(pdu) => {
-            push_pdcp(alloc, out, &pdu)?;
+            push_pdcp(out, &pdu)?;
             Ok(true)
         }
         Err(fault) => {
@@ -33,18 +28,18 @@ pub(crate) fn push_shown_pdcp(
     }
 }
 
-fn push_pdcp(alloc: Global, out: &mut String, pdu: &PdcpView<'_>) -> Result<(), AllocError>
+fn push_pdcp(out: &mut String, pdu: &PdcpView<'_>) -> Result<(), AllocError>
     ensures { OnOk result
         (string_bytes out.new ≡ string_bytes out.old ++ pdcp_text (pdcp_of pdu.now)) }
 {
     match *pdu {
         PdcpView::Sdu { sn, body } => {
             write!(out, "sdu sn {sn}")?;
-            push_body(alloc, out, body)
+            push_body(out, body)
         }
         PdcpView::Report { fmc, map } => {
             write!(out, "report fmc {fmc} map ")?;
-            push_octets(alloc, out, map)
+            push_octets(out, map)
         }
     }
 }

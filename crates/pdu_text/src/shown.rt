@@ -20,9 +20,9 @@ pub fn push_shown(alloc: Global, out: &mut String, form: Form, bytes: &[u8]) -> 
         (string_bytes out.new)) }
 {
     match form {
-        Form::Amd(size) => push_shown_amd(alloc, out, size, bytes),
+        Form::Amd(size) => push_shown_amd(out, size, bytes),
         Form::Status(size) => push_shown_status(alloc, out, size, bytes),
-        Form::Pdcp(size) => push_shown_pdcp(alloc, out, size, bytes),
-        Form::Srap => push_shown_srap(alloc, out, bytes),
+        Form::Pdcp(size) => push_shown_pdcp(out, size, bytes),
+        Form::Srap => push_shown_srap(out, bytes),
     }
 }

@@ -8,17 +8,17 @@ use crate::Form;
 use crate::text::{push_body, push_refused};
 use link_base::Memory;
 use srap_header::{SrapFault, SrapView, read};
-use std::alloc::{AllocError, Global};
+use std::alloc::AllocError;
 
 /// Adds the text of the SRAP data PDU that bytes spell, or that of their first fault. Answers whether they spell one.
-pub(crate) fn push_shown_srap(alloc: Global, out: &mut String, bytes: &[u8]) -> Result<bool, Memory>
+pub(crate) fn push_shown_srap(out: &mut String, bytes: &[u8]) -> Result<bool, Memory>
     ensures { IfOk result
         (λ read. AddsExplanation Form.Srap bytes.now read (string_bytes out.old)
         (string_bytes out.new)) }
 {
     match read(bytes) {
         Ok(pdu) => {
-            push_srap(alloc, out, &pdu)?;
+            push_srap(out, &pdu)?;
             Ok(true)
         }
         Err(fault) => {
@@ -28,14 +28,14 @@ pub(crate) fn push_shown_srap(alloc: Global, out: &mut String, bytes: &[u8]) -> 
     }
 }
 
-fn push_srap(alloc: Global, out: &mut String, pdu: &SrapView<'_>) -> Result<(), AllocError>
+fn push_srap(out: &mut String, pdu: &SrapView<'_>) -> Result<(), AllocError>
     ensures { OnOk result
         (string_bytes out.new ≡ string_bytes out.old ++ srap_text (srap_of pdu.now)) }
 {
     let bearer = pdu.bearer;
     let ue = pdu.ue;
     write!(out, "srap bearer {bearer} ue {ue}")?;
-    push_body(alloc, out, pdu.body)
+    push_body(out, pdu.body)
 }
 
 /// The word for what is wrong with a SRAP data PDU.

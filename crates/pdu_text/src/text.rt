@@ -5,24 +5,24 @@ ghost use Rattle.script_text.specs.Words.{hex_text};
 ghost use Rattle.pdu_text.specs.Texts.{refused_text};
 
 use script_text::push_hex;
-use std::alloc::{AllocError, Global};
+use std::alloc::AllocError;
 
 /// Adds the body of a PDU, with which its line ends.
-pub(crate) fn push_body(alloc: Global, out: &mut String, body: &[u8]) -> Result<(), AllocError>
+pub(crate) fn push_body(out: &mut String, body: &[u8]) -> Result<(), AllocError>
     ensures { OnOk result
         (string_bytes out.new ≡ string_bytes out.old
         ++ spaced (codes "body" ∷ hex_text body.now ∷ []) ++ 10 ∷ []) }
 {
     out.push_str(" body ")?;
-    push_octets(alloc, out, body)
+    push_octets(out, body)
 }
 
 /// Adds octets, with which their line ends.
-pub(crate) fn push_octets(alloc: Global, out: &mut String, octets: &[u8]) -> Result<(), AllocError>
+pub(crate) fn push_octets(out: &mut String, octets: &[u8]) -> Result<(), AllocError>
     ensures { OnOk result
         (string_bytes out.new ≡ string_bytes out.old ++ hex_text octets.now ++ 10 ∷ []) }
 {
-    push_hex(alloc, out, octets)?;
+    push_hex(out, octets)?;
     out.push_str("\n")
 }
 

@@ -95,7 +95,7 @@ impl Player {
         ensures fits { OnOk result (Fits self.new.session) }
     {
         let answer = self.session.carry(table(&self.stage), line)?;
-        push_answer(alloc, out, line, answer.events.as_slice(), &answer.reply)?;
+        push_answer(out, line, answer.events.as_slice(), &answer.reply)?;
         Ok(())
     }
 }

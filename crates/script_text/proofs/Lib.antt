@@ -2,9 +2,10 @@ pub mod Numerals
 pub mod OneLine
 pub mod NotRange
 pub mod Bounds
+pub mod HexText
 pub mod HasForm
-pub mod NoLine
-pub mod WordShapes
+pub mod ReaderSteps
+pub mod LineRead
 pub mod Parsed
 pub mod Joined
 pub mod PlainWords
@@ -17,3 +18,4 @@ pub mod ReplyTexts
 pub mod EventTexts
 pub mod TraceTexts
 pub mod OneParse
+pub mod Written

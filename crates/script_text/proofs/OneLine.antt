@@ -130,7 +130,7 @@ key_one u v w k l r s d e a b =
     ∙ ap (λ (x : Way). let m : Key = record { remote = l.remote; drb = l.drb; way = x } in m) ways)
 
 -- a number for each form, and the one that a first word has
-abbrev form : Line → ℕ
+abbrev pub form : Line → ℕ
 form (Version n) = 0
 form (Set s v) = 1
 form (Remote r) = 2
@@ -157,7 +157,7 @@ form (Apply r n) = 22
 form Drain = 23
 form End = 24
 
-abbrev named : List ℕ → ℕ
+abbrev pub named : List ℕ → ℕ
 named w =
     cond (bytes_eq w (codes "relayscript")) 0 (cond (bytes_eq w (codes "set")) 1 (cond (bytes_eq w (codes "remote")) 2 (cond (bytes_eq w (codes "bearer")) 3
     (cond (bytes_eq w (codes "uu")) 4 (cond (bytes_eq w (codes "pc5")) 5 (cond (bytes_eq w (codes "map")) 6 (cond (bytes_eq w (codes "start")) 7
@@ -166,7 +166,7 @@ named w =
     (cond (bytes_eq w (codes "expire")) 16 (cond (bytes_eq w (codes "push")) 17 (cond (bytes_eq w (codes "pull")) 18 (cond (bytes_eq w (codes "burst")) 19
     (cond (bytes_eq w (codes "report")) 20 (cond (bytes_eq w (codes "plan")) 21 (cond (bytes_eq w (codes "apply")) 22 (cond (bytes_eq w (codes "drain")) 23 24)))))))))))))))))))))))
 
-form_is : (l : Line) → named (name l) ≡ form l
+pub form_is : (l : Line) → named (name l) ≡ form l
 form_is (Version n) = refl
 form_is (Set s v) = refl
 form_is (Remote r) = refl

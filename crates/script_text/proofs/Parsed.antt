@@ -9,14 +9,14 @@ use Rattle.script_text.specs.declared.reason.Reason.TheVariants.{Line, Text, Ver
 use Rattle.script_text.specs.declared.reason.LineFault.TheVariants.{Bad}
 use Rattle.script_text.specs.declared.stage.Part.{Part}
 use Rattle.script_text.specs.declared.stage.ScriptStage.{ScriptStage}
-use Rattle.script_text.specs.Words.{words_of, word_at}
-use Rattle.script_text.specs.Lines.{is_skipped, Spells, IsLineOf, IsNoLineOf}
-use Rattle.script_text.specs.Forms.{is_formed, is_named}
+use Rattle.script_text.specs.Words.{words_of}
+use Rattle.script_text.specs.Lines.{is_skipped, Spells, IsLineOf}
 use Rattle.script_text.specs.Stages.{after, entered, kept, tables_after, table_line, EntersStage}
-use Rattle.script_text.specs.Grammar.{IsRefused, IsBad, reasons, NoneHolds, IsFirstReason, Parses, IsBegun, IsRead, fault_of, is_printable, lacks_version}
+use Rattle.script_text.specs.Grammar.{IsRefused, IsBad, reasons, NoneHolds, IsFirstReason, Parses, IsBegun, IsRead, fault_of}
 use Rattle.script_text.proofs.OneLine.{one_line}
 use Rattle.script_text.proofs.NotRange.{not_range}
 use Rattle.script_text.proofs.HasForm.{formed}
+use Rattle.script_text.proofs.LineRead.{FaultMeans}
 
 -- the tables refuse no line that is spelt for a range
 kept_range : (x : Result Contents TableFault) → (x ≡ Err faults.Range → ⊥) → kept x ≡ Err faults.Range → ⊥
@@ -49,13 +49,13 @@ module _ (stage : ScriptStage) (text : List ℕ) (short : length text ≤ 65536)
   misread Text x = first Text (inr (not_long, inl (refl, x)))
   misread Version x = first Version (inr (not_long, inr (opposite x.0, inl (refl, x.1))))
   misread Word x = first Word (inr (not_long, inr (opposite x.0, inr (λ v. opposite v x.1, inl (refl, x.2)))))
-  misread Form x = first Form (inr (not_long, inr (opposite x.0.printable, inr (λ v. opposite v x.0.opened, inr (opposite x.0.known, inl (refl, x.1))))))
-  misread Range x = first Range (inr (not_long, inr (opposite x.0.printable, inr (λ v. opposite v x.0.opened, inr (opposite x.0.known, inr (opposite x.1, inl (refl, x.2)))))))
+  misread Form x = first Form (inr (not_long, inr (opposite x.0.printable, inr (λ v. opposite v x.0.opened, inr (λ none. none x.0.known, inl (refl, x.1))))))
+  misread Range x = first Range (inr (not_long, inr (opposite x.0.printable, inr (λ v. opposite v x.0.opened, inr (λ none. none x.0.known, inr (λ none. none x.1, inl (refl, x.2)))))))
   misread reason x = absurd x
 
   module _ (line : ALine) (begun : IsBegun stage.part text) (is : IsLineOf stage.part (words_of text) line) where
     has_form : IsBad stage text Form → ⊥
-    has_form bad = opposite (formed stage.part (words_of text) line is) bad
+    has_form bad = bad (formed stage.part (words_of text) line is)
 
     is_some_line : IsBad stage text Range → ⊥
     is_some_line none = none line is
@@ -68,7 +68,7 @@ module _ (stage : ScriptStage) (text : List ℕ) (short : length text ≤ 65536)
     not_refused fault other e apart x = apart (sym e ∙ same_fault fault x)
 
     before_tables : (reason : Reason) → IsFirstReason (IsBad stage text) (Twice ∷ Unknown ∷ Limit ∷ Map ∷ []) reason → IsFirstReason (IsBad stage text) (reasons text) reason
-    before_tables reason x = first reason (inr (not_long, inr (opposite begun.printable, inr (λ v. opposite v begun.opened, inr (opposite begun.known, inr (has_form, inr (is_some_line, x)))))))
+    before_tables reason x = first reason (inr (not_long, inr (opposite begun.printable, inr (λ v. opposite v begun.opened, inr (λ none. none begun.known, inr (has_form, inr (is_some_line, x)))))))
 
     refused : (fault : TableFault) → after stage line ≡ Err fault → IsRefused stage text fault
     refused fault e = record { line = line; is_line = is; refused = e }
@@ -92,19 +92,13 @@ module _ (stage : ScriptStage) (text : List ℕ) (short : length text ≤ 65536)
     taken new e = (
       read,
       subst (λ (b : Bool). NoneHolds (IsBad stage text) (cond b (Line ∷ []) (Line ∷ Text ∷ Version ∷ Word ∷ Form ∷ Range ∷ Twice ∷ Unknown ∷ Limit ∷ Map ∷ []))) (sym read)
-          (not_long, (opposite begun.printable, (λ v. opposite v begun.opened, (opposite begun.known, (has_form, (is_some_line, (not_taken new faults.Twice e, (not_taken new faults.Unknown e, (not_taken new faults.Limit e, (not_taken new faults.NoMap e, tt)))))))))),
+          (not_long, (opposite begun.printable, (λ v. opposite v begun.opened, ((λ none. none begun.known), (has_form, (is_some_line, (not_taken new faults.Twice e, (not_taken new faults.Unknown e, (not_taken new faults.Limit e, (not_taken new faults.NoMap e, tt)))))))))),
       is,
       e,
     )
 
--- words that begin a line and spell none
-misformed : (part : Part) (text : List ℕ) → IsBegun part text → IsNoLineOf part (words_of text) → (b : Bool) → is_formed part (words_of text) ≡ b → IsRead part text (Err (Bad (cond b Range Form)))
-misformed part text begun none true is = (begun, is, none)
-misformed part text begun none false is = (begun, is)
-
-pub misspelt : (part : Part) (text : List ℕ) (ws : List (List ℕ)) → ws ≡ words_of text → is_printable text ≡ true → lacks_version part text ≡ false → is_named part (word_at 0 ws) ≡ true
-    → IsNoLineOf part ws → (reason : Reason) → reason ≡ cond (is_formed part ws) Range Form → IsRead part text (Err (Bad reason))
-misspelt part text ws same printable opened known none reason e =
-    let begun : IsBegun part text = record { printable = printable; opened = opened; known = subst (λ (us : List (List ℕ)). is_named part (word_at 0 us) ≡ true) same known } in
-    subst (λ (r : Reason). IsRead part text (Err (Bad r))) (sym (e ∙ ap (λ (us : List (List ℕ)). cond (is_formed part us) Range Form) same))
-    (misformed part text begun (subst (λ (us : List (List ℕ)). IsNoLineOf part us) same none) (is_formed part (words_of text)) refl)
+-- what a reader's fault says of a text
+pub misspelt : (part : Part) (text : List ℕ) (line : ALine) → IsBegun part text → (reason : Reason) → FaultMeans part (words_of text) line (Some reason) → IsRead part text (Err (Bad reason))
+misspelt part text line begun Range x = (begun, x.0, x.1)
+misspelt part text line begun Form x = (begun, x)
+misspelt part text line begun reason x = absurd x

@@ -12,7 +12,6 @@ use Rattle.script_text.specs.declared.stage.ScriptStage.{ScriptStage}
 use Rattle.script_text.specs.Words.{words_of, word_at}
 use Rattle.script_text.specs.Fields.{field_text, joined}
 use Rattle.script_text.specs.Lines.{is_skipped, Spells, name, fields, part_of, line_text}
-use Rattle.script_text.specs.Forms.{is_named}
 use Rattle.script_text.specs.Grammar.{IsBad, NoneHolds, Parses, IsBegun, lacks_version}
 use Rattle.script_text.proofs.Bounds.{bounded}
 use Rattle.script_text.proofs.Joined.{is_plain, words_of_joined, printable_joined, length-text, length-joined, total, total-cons}
@@ -57,10 +56,6 @@ opened : (ws : List (List ℕ)) (line : ALine) → Spells ws line → lacks_vers
 opened ws (VersionLine n) x = ap (lacks_version (part_of (VersionLine n))) (version_text n (omega (arith, x.holds.0.1, x.holds.0.2)))
 opened ws line x = refl
 
-not_false : (b : Bool) → (b ≡ false → ⊥) → b ≡ true
-not_false true f = refl
-not_false false f = absurd (f refl)
-
 pub reads_back : (stage new : ScriptStage) (text : List ℕ) (line : ALine) → Parses stage text (Ok (Some line)) new → Parses stage (line_text line) (Ok (Some line)) new
 reads_back stage new text line p =
     let none : NoneHolds (IsBad stage text) (Line ∷ Text ∷ Version ∷ Word ∷ Form ∷ Range ∷ Twice ∷ Unknown ∷ Limit ∷ Map ∷ []) =
@@ -72,6 +67,6 @@ reads_back stage new text line p =
     let begun : IsBegun stage.part (line_text line) = record {
       printable = printable_joined (name line) (map field_text (fields line)) (plain_name line) (plain_texts 1 (words_of text) (fields line) (bounded line) spelt.holds);
       opened = subst (λ (part : Part). lacks_version part (line_text line) ≡ false) p.2.stands (opened (words_of text) line spelt);
-      known = ap (is_named stage.part) (again.begins ∙ sym spelt.begins) ∙ not_false _ none.1.1.1.0;
+      known = record { line = line; stands = p.2.stands; begins = again.begins };
     } in
     taken stage (line_text line) short (not_skipped line) line begun (record { stands = p.2.stands; spelt = again }) new p.3

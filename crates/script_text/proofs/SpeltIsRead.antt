@@ -11,7 +11,6 @@ use Rattle.script_text.specs.declared.stage.ScriptStage.{ScriptStage}
 use Rattle.script_text.specs.Words.{words_of, word_at, IsHex}
 use Rattle.script_text.specs.Fields.{Field, Number, Hex, Port, IsSpelt, AreSpelt, joined}
 use Rattle.script_text.specs.Lines.{is_skipped, Spells, IsLineOf, name, fields, part_of}
-use Rattle.script_text.specs.Forms.{is_named}
 use Rattle.script_text.specs.Stages.{after}
 use Rattle.script_text.specs.Grammar.{Parses, IsBegun, is_printable, lacks_version}
 use Rattle.script_text.proofs.Bounds.{IsBounded, AreBounded, bounded}
@@ -75,15 +74,8 @@ opened text (Version n) x =
     (spelt_text text (Version n) x ∙ (ap (λ (ws : List (List ℕ)). joined (codes "relayscript" ∷ ws)) (version_number (words_of text) n x) ∙ version_text n (omega (arith, x.holds.0.1, x.holds.0.2))))
 opened text line x = refl
 
-named : (line : Line) → is_named (part_of line) (name line) ≡ true
-named (Version n) = refl
-named line = refl
-
-known : (words : List (List ℕ)) (line : Line) → Spells words line → is_named (part_of line) (word_at 0 words) ≡ true
-known words line x = ap (is_named (part_of line)) x.begins ∙ named line
-
 begun : (text : List ℕ) (line : Line) → Spells (words_of text) line → IsBegun (part_of line) text
-begun text line x = record { printable = printable text line x; opened = opened text line x; known = known (words_of text) line x }
+begun text line x = record { printable = printable text line x; opened = opened text line x; known = record { line = line; stands = refl; begins = x.begins } }
 
 pub spelt_is_read : (stage new : ScriptStage) (text : List ℕ) (line : Line) → length text ≤ 65536 → IsLineOf stage.part (words_of text) line → after stage line ≡ Ok new → Parses stage text (Ok (Some line)) new
 spelt_is_read stage new text line short is e =

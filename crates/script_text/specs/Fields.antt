@@ -8,8 +8,6 @@ use Rattle.link_base.specs.declared.names.Side.{Side as ASide}
 use Rattle.link_base.specs.declared.names.Timer.{Timer as ATimer}
 use Rattle.link_base.specs.declared.names.Node.{Node as ANode}
 use Rattle.bearer_map.specs.declared.settings.SetName.{SetName}
-use Rattle.script_text.specs.declared.shapes.Shape.{Shape}
-use Rattle.script_text.specs.declared.shapes.Shape.TheVariants as shapes
 use Rattle.script_text.specs.Words.{word_at, IsNumber, IsSize, IsHex, IsPort, size_text, hex_text, port_text, way_text, side_text, timer_text, node_text, setting_text}
 
 -- what a word holds: a number with its range, a size of sequence numbers, bytes, a name, or one of two fixed words
@@ -44,20 +42,6 @@ IsSpelt word ToRelay = word ≡ codes "relay"
 abbrev pub AreSpelt : ℕ → List (List ℕ) → List Field → Type 0
 AreSpelt k words [] = Unit {0}
 AreSpelt k words (f ∷ fields) = IsSpelt (word_at k words) f × AreSpelt (suc k) words fields
-
--- what the form of the word is, whatever the size of a number in it
-abbrev pub shape_of : Field → Shape
-shape_of (Number low high n) = shapes.Number
-shape_of (Size size) = shapes.Number
-shape_of (Hex bytes) = shapes.Hex
-shape_of (Port port) = shapes.Port
-shape_of (Way way) = shapes.Way
-shape_of (Side side) = shapes.Side
-shape_of (Timer timer) = shapes.Timer
-shape_of (Node node) = shapes.Node
-shape_of (Setting name) = shapes.Setting
-shape_of ToDirect = shapes.Direct
-shape_of ToRelay = shapes.Relay
 
 -- how the word is written
 abbrev pub field_text : Field → List ℕ

@@ -15,7 +15,7 @@ use Rattle.script_text.specs.declared.stage.Part.{Part}
 use Rattle.script_text.specs.declared.stage.ScriptStage.{ScriptStage}
 use Rattle.script_text.specs.Words.{words_of, word_at}
 use Rattle.script_text.specs.Lines.{is_skipped, line_text, IsLineOf, IsNoLineOf, Spells}
-use Rattle.script_text.specs.Forms.{is_formed, is_named}
+use Rattle.script_text.specs.Forms.{IsFormed, IsNamed}
 use Rattle.script_text.specs.Stages.{after}
 
 -- each byte is from 32 to 126
@@ -38,8 +38,8 @@ abbrev pub IsBad : ScriptStage → List ℕ → Reason → Type 0
 IsBad stage text Line = LONGEST_LINE < length text
 IsBad stage text Text = is_printable text ≡ false
 IsBad stage text Version = lacks_version stage.part text ≡ true
-IsBad stage text Word = is_named stage.part (word_at 0 (words_of text)) ≡ false
-IsBad stage text Form = is_formed stage.part (words_of text) ≡ false
+IsBad stage text Word = IsNamed stage.part (word_at 0 (words_of text)) → ⊥
+IsBad stage text Form = IsFormed stage.part (words_of text) → ⊥
 IsBad stage text Range = IsNoLineOf stage.part (words_of text)
 IsBad stage text Twice = IsRefused stage text faults.Twice
 IsBad stage text Unknown = IsRefused stage text faults.Unknown
@@ -82,16 +82,16 @@ fault_of faults.Memory = Memory
 pub record IsBegun (part : Part) (text : List ℕ) : Type 0 where
   pub printable : is_printable text ≡ true
   pub opened : lacks_version part text ≡ false
-  pub known : is_named part (word_at 0 (words_of text)) ≡ true
+  pub known : IsNamed part (word_at 0 (words_of text))
 
 -- what the text itself tells, before the tables are asked: the line of this part that it spells, or the first reason
 abbrev pub IsRead : Part → List ℕ → Result ALine LineFault → Type 0
 IsRead part text (Ok line) = IsBegun part text × IsLineOf part (words_of text) line
 IsRead part text (Err (Bad Text)) = is_printable text ≡ false
 IsRead part text (Err (Bad Version)) = (is_printable text ≡ true) × (lacks_version part text ≡ true)
-IsRead part text (Err (Bad Word)) = (is_printable text ≡ true) × (lacks_version part text ≡ false) × (is_named part (word_at 0 (words_of text)) ≡ false)
-IsRead part text (Err (Bad Form)) = IsBegun part text × (is_formed part (words_of text) ≡ false)
-IsRead part text (Err (Bad Range)) = IsBegun part text × (is_formed part (words_of text) ≡ true) × IsNoLineOf part (words_of text)
+IsRead part text (Err (Bad Word)) = (is_printable text ≡ true) × (lacks_version part text ≡ false) × (IsNamed part (word_at 0 (words_of text)) → ⊥)
+IsRead part text (Err (Bad Form)) = IsBegun part text × (IsFormed part (words_of text) → ⊥)
+IsRead part text (Err (Bad Range)) = IsBegun part text × IsFormed part (words_of text) × IsNoLineOf part (words_of text)
 IsRead part text (Err (Bad other)) = ⊥
 IsRead part text (Err Memory) = Unit {0}
 

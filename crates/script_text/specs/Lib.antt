@@ -2,6 +2,7 @@ pub mod Words
 pub mod Fields
 pub mod Lines
 pub mod Forms
+pub mod Reading
 pub mod Splits
 pub mod Stages
 pub mod Grammar

@@ -1,5 +1,5 @@
 -- The lines of a script: a row of its words for each, by which it is read and written.
-use Rattle.std.specs.Prelude.{◌≡◌, ℕ, suc, ◌+◌, Bool, true, false, List, [], ◌∷◌, length, map, codes, ◌==◌}
+use Rattle.std.specs.Prelude.{◌≡◌, ℕ, suc, ◌+◌, Bool, true, List, [], ◌∷◌, length, map, codes, ◌==◌}
 use Rattle.link_base.specs.declared.names.Remote.{Remote as ARemote}
 use Rattle.link_base.specs.declared.names.Drb.{Drb}
 use Rattle.link_base.specs.declared.names.Chan.{Chan}
@@ -12,7 +12,7 @@ use Rattle.script_text.specs.declared.line.Line.TheVariants.{Version, Set, Remot
 use Rattle.script_text.specs.declared.stage.Part.{Part}
 use Rattle.script_text.specs.declared.stage.Part.TheVariants as parts
 use Rattle.script_text.specs.Words.{word_at}
-use Rattle.script_text.specs.Fields.{Field, Number, Size, Hex, Port, Way, Side, Timer, Node, Setting, ToDirect, ToRelay, IsSpelt, AreSpelt, field_text, joined}
+use Rattle.script_text.specs.Fields.{Field, Number, Size, Hex, Port, Way, Side, Timer, Node, Setting, ToDirect, ToRelay, AreSpelt, field_text, joined}
 
 -- an empty line, or one that begins with #, is skipped
 abbrev pub is_skipped : List ℕ → Bool
@@ -136,44 +136,6 @@ pub record IsLineOf (part : Part) (words : List (List ℕ)) (line : Line) : Type
 -- no line of this part is spelt so
 abbrev pub IsNoLineOf : Part → List (List ℕ) → Type 0
 IsNoLineOf part words = (line : Line) → IsLineOf part words line → ⊥
-
--- the only word, and a word with a ticket
-abbrev pub IsOnly : List (List ℕ) → List ℕ → Type 0
-IsOnly words first = (length words ≡ 1) × (word_at 0 words ≡ first)
-
--- the words are this first one and a ticket
-abbrev pub NamesTicket : List (List ℕ) → List ℕ → ℕ → Type 0
-NamesTicket words first t = (length words ≡ 2) × (word_at 0 words ≡ first) × IsSpelt (word_at 1 words) (ticket t)
-
--- a line about PDUs on the air or timers
-abbrev pub is_about_pdus : Line → Bool
-is_about_pdus (Grant port way n) = true
-is_about_pdus (Deliver t) = true
-is_about_pdus (Repeat t) = true
-is_about_pdus (Lose t) = true
-is_about_pdus (Stage t) = true
-is_about_pdus (Expire port side timer) = true
-is_about_pdus line = false
-
--- a line about the relay, reports, plans or the script's end
-abbrev pub is_about_work : Line → Bool
-is_about_work (Push port) = true
-is_about_work (Pull port) = true
-is_about_work Burst = true
-is_about_work (Report key) = true
-is_about_work (Plan r goal) = true
-is_about_work (Apply r node) = true
-is_about_work Drain = true
-is_about_work End = true
-is_about_work line = false
-
--- the words spell no line about PDUs or timers
-abbrev pub IsNoPduLine : List (List ℕ) → Type 0
-IsNoPduLine words = (line : Line) → is_about_pdus line ≡ true → Spells words line → ⊥
-
--- the words spell no line about work
-abbrev pub IsNoWorkLine : List (List ℕ) → Type 0
-IsNoWorkLine words = (line : Line) → is_about_work line ≡ true → Spells words line → ⊥
 
 -- how a line is written
 abbrev pub line_text : Line → List ℕ

@@ -4,9 +4,13 @@ use Rattle.script_text.specs.declared.limits.TheConstants.{LONGEST_LINE, LONGEST
 use Rattle.script_text.specs.declared.next_line.NextLine.{NextLine}
 use Rattle.script_text.specs.declared.next_line.NextLine.TheVariants.{Line, Long, TooLong, End}
 
+-- the byte isn't among these
+abbrev pub HasNo : ℕ → List ℕ → Type 0
+HasNo byte bytes = EachIndex bytes (λ k. slice_index bytes k ≢ byte)
+
 -- no byte is an LF
 abbrev pub HasNoLf : List ℕ → Type 0
-HasNoLf bytes = EachIndex bytes (λ k. slice_index bytes k ≢ 10)
+HasNoLf bytes = HasNo 10 bytes
 
 -- the bytes are a line, and what stands behind it: an LF ends it, or the bytes do
 pub record Splits (bytes line after : List ℕ) : Type 0 where

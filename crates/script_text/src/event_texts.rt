@@ -3,8 +3,9 @@ ghost use Rattle.std.specs.Prelude.{◌≡◌, ◌++◌, OnOk, IfOk, string_byte
 ghost use Rattle.script_text.specs.Texts.{event_text};
 
 use crate::Event;
+use crate::hex_words::push_hex;
 use crate::reply_texts::push_reply;
-use crate::text::{push_hex, push_key, push_port, way_text};
+use crate::text::{push_key, push_port, way_text};
 use link_base::{Bytes, Memory, PortName, Way};
 use std::alloc::{AllocError, Global};
 
@@ -14,18 +15,18 @@ pub fn event_text(alloc: Global, event: &Event) -> Result<Bytes, Memory>
     ensures { IfOk result (λ text. text ≡ event_text event.now) }
 {
     let mut out = String::new(alloc);
-    push_event(alloc, &mut out, event)?;
+    push_event(&mut out, event)?;
     Ok(Bytes::from_vec(out.into_bytes()))
 }
 
 /// Adds the text of an event.
-pub(crate) fn push_event(alloc: Global, out: &mut String, event: &Event) -> Result<(), AllocError>
+pub(crate) fn push_event(out: &mut String, event: &Event) -> Result<(), AllocError>
     ensures { OnOk result (string_bytes out.new ≡ string_bytes out.old ++ event_text event.now) }
 {
     match event {
         Event::Heard { ticket, reply } => {
             write!(out, "heard {ticket} ")?;
-            push_reply(alloc, out, reply)
+            push_reply(out, reply)
         }
         Event::Left { ticket } => write!(out, "left {ticket}"),
         Event::MaxRetx { port, way, number } => push_max_retx(out, *port, *way, *number),
@@ -33,7 +34,7 @@ pub(crate) fn push_event(alloc: Global, out: &mut String, event: &Event) -> Resu
             out.push_str("up")?;
             push_key(out, key)?;
             out.push_str(" ")?;
-            push_hex(alloc, out, sdu.as_slice())
+            push_hex(out, sdu.as_slice())
         }
         Event::Conf { key, confirmed } => {
             out.push_str("conf")?;

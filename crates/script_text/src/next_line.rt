@@ -1,7 +1,7 @@
 // Where a script's lines end.
 ghost use Rattle.std.specs.Prelude.{◌≡◌, ◌+◌, ◌<◌, ◌≤◌, length, ℕ, IfSome, IsNone, ◌++◌, ◌∷◌, take, drop};
 ghost use Rattle.script_text.specs.declared.limits.TheConstants.{LONGEST_SCRIPT};
-ghost use Rattle.script_text.specs.Splits.{IsNextLine, HasNoLf};
+ghost use Rattle.script_text.specs.Splits.{IsNextLine, HasNo};
 
 use crate::{LONGEST_LINE, LONGEST_SCRIPT};
 use memchr::memchr;
@@ -29,7 +29,7 @@ pub fn next_line_of(rest: &[u8], used: usize) -> NextLine<'_>
     ensures { IsNextLine used rest.now result }
 {
     let window = rest.len().min(LONGEST_WITH_LF).min(LONGEST_SCRIPT - used);
-    match lf_within(&rest[..window]) {
+    match place_of(LF, &rest[..window]) {
         Some(at) => NextLine::Line(&rest[..at], &rest[at + 1..]),
         None => {
             if window == LONGEST_WITH_LF {
@@ -45,13 +45,13 @@ pub fn next_line_of(rest: &[u8], used: usize) -> NextLine<'_>
     }
 }
 
-/// The place of the first LF.
-fn lf_within(bytes: &[u8]) -> Option<usize>
+/// The first place of a byte.
+pub(crate) fn place_of(byte: u8, bytes: &[u8]) -> Option<usize>
     ensures found { IfSome result (λ at. at < length bytes.now) }
     ensures split { IfSome result
-        (λ at. bytes.now ≡ take at bytes.now ++ 10 ∷ drop (at + 1) bytes.now) }
-    ensures before { IfSome result (λ at. HasNoLf (take at bytes.now)) }
-    ensures none { IsNone result → HasNoLf bytes.now }
+        (λ at. bytes.now ≡ take at bytes.now ++ byte ∷ drop (at + 1) bytes.now) }
+    ensures before { IfSome result (λ at. HasNo byte (take at bytes.now)) }
+    ensures none { IsNone result → HasNo byte bytes.now }
 {
-    memchr(LF, bytes)
+    memchr(byte, bytes)
 }

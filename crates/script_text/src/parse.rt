@@ -1,16 +1,12 @@
 // A line of a script, read.
-ghost use Rattle.std.specs.Prelude.{◌≡◌, IfOk, MatchOption, if◌then◌else◌};
-ghost use Rattle.script_text.specs.Lines.{is_skipped, IsLineOf, IsNoLineOf};
-ghost use Rattle.script_text.specs.Forms.{is_formed};
+ghost use Rattle.std.specs.Prelude.{◌≡◌};
+ghost use Rattle.script_text.specs.Lines.{is_skipped};
 ghost use Rattle.script_text.specs.Grammar.{fault_of, is_printable, lacks_version, IsRead, Parses};
 
-use crate::running_lines::running_line;
-use crate::shapes::{has_form, is_named};
-use crate::table_lines::{table_line, version_line};
-use crate::words::{Words, is_word};
+use crate::lines::line_of;
+use crate::reader::{Reader, is_word};
 use crate::{LONGEST_LINE, Line, LineFault, Part, Reason, ScriptStage};
 use bearer_map::TableFault;
-use link_base::Memory;
 use std::alloc::Global;
 
 /// Reads a line, without its LF, at a stage of a script. A table line is entered in the stage's tables.
@@ -61,14 +57,15 @@ fn read_line(alloc: Global, part: Part, text: &[u8]) -> Result<Line, LineFault>
     if lacks_version(part, text) {
         return Err(LineFault::Bad(Reason::Version));
     }
-    let words = Words::of(alloc, text)?;
-    if !is_named(part, words.get(0)) {
-        return Err(LineFault::Bad(Reason::Word));
+    let mut reader = Reader::new(text);
+    let word = reader.next_word();
+    match line_of(alloc, part, word, &mut reader)? {
+        Some(line) => match reader.fault() {
+            Some(reason) => Err(LineFault::Bad(reason)),
+            None => Ok(line),
+        },
+        None => Err(LineFault::Bad(Reason::Word)),
     }
-    let Some(line) = line_of(alloc, part, &words)? else {
-        return Err(LineFault::Bad(misspelling(part, &words)));
-    };
-    Ok(line)
 }
 
 /// Whether it is to be the first line, and isn't the version.
@@ -76,40 +73,20 @@ fn lacks_version(part: Part, text: &[u8]) -> bool
     ensures { result ≡ lacks_version part text.now }
 {
     match part {
-        Part::Start => !is_word(text, b"relayscript 1"),
+        Part::Start => !is_word(text, "relayscript 1"),
         _ => false,
     }
 }
 
-/// Why words that begin a line of this part spell none.
-fn misspelling(part: Part, words: &Words<'_>) -> Reason
-    ensures { result ≡ (if is_formed part words.now then Reason.Range else Reason.Form) }
-{
-    if has_form(part, words) {
-        Reason::Range
-    } else {
-        Reason::Form
-    }
-}
-
-/// The line of this part that the words spell.
-fn line_of(alloc: Global, part: Part, words: &Words<'_>) -> Result<Option<Line>, Memory>
-    ensures { IfOk result
-        (λ found. MatchOption found (IsNoLineOf part words.now) (IsLineOf part words.now)) }
-{
-    match part {
-        Part::Start => Ok(version_line(words)),
-        Part::Tables => Ok(table_line(words)),
-        Part::Running => running_line(alloc, words),
-        Part::Ended => Ok(None),
-    }
-}
-
-/// Whether each byte is from 32 to 126.
+/// Whether each byte is from 32 to 126. Each is looked at, so that many can be at a time.
 fn is_printable(text: &[u8]) -> bool
     ensures { result ≡ is_printable text.now }
 {
-    text.iter().all(|b| (32..=126).contains(b))
+    let mut all = true;
+    for byte in text {
+        all &= (32..=126).contains(byte);
+    }
+    all
 }
 
 /// Whether a line is skipped: it is empty, or begins with `#`.

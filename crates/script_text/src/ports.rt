@@ -4,8 +4,8 @@ ghost use Rattle.std.specs.List.{position};
 ghost use Rattle.link_base.specs.declared.names.PortName.{PortName as APort};
 ghost use Rattle.script_text.specs.Words.{before_point, behind_point, port_letter, is_port_form, IsPort};
 
-use crate::numbers::{chan, drb, is_numeral, remote};
-use link_base::PortName;
+use crate::numbers::{is_numeral, number};
+use link_base::{Chan, Drb, PortName, Remote};
 
 /// The place of the first point.
 fn point(word: &[u8]) -> Option<usize>
@@ -82,34 +82,24 @@ fn direct(word: &[u8]) -> Option<PortName>
     requires { port_letter word.now ≡ 100 }
     ensures { MatchOption result ((port : APort) → IsPort word.now port → ⊥) (IsPort word.now) }
 {
-    let Some(remote) = remote(before_point(word)) else {
-        return None;
-    };
-    let Some(drb) = drb(behind_point(word)) else {
-        return None;
-    };
-    Some(PortName::Direct(remote, drb))
+    let remote = number(before_point(word), 1, 65_535)?;
+    let drb = number(behind_point(word), 1, 32)?;
+    Some(PortName::Direct(Remote(remote as u16), Drb(drb as u8)))
 }
 
 fn pc5(word: &[u8]) -> Option<PortName>
     requires { port_letter word.now ≡ 112 }
     ensures { MatchOption result ((port : APort) → IsPort word.now port → ⊥) (IsPort word.now) }
 {
-    let Some(remote) = remote(before_point(word)) else {
-        return None;
-    };
-    let Some(chan) = chan(behind_point(word)) else {
-        return None;
-    };
-    Some(PortName::Pc5(remote, chan))
+    let remote = number(before_point(word), 1, 65_535)?;
+    let chan = number(behind_point(word), 1, 8)?;
+    Some(PortName::Pc5(Remote(remote as u16), Chan(chan as u8)))
 }
 
 fn uu(word: &[u8]) -> Option<PortName>
     requires { port_letter word.now ≡ 117 }
     ensures { MatchOption result ((port : APort) → IsPort word.now port → ⊥) (IsPort word.now) }
 {
-    let Some(chan) = chan(behind_letter(word)) else {
-        return None;
-    };
-    Some(PortName::Uu(chan))
+    let chan = number(behind_letter(word), 1, 8)?;
+    Some(PortName::Uu(Chan(chan as u8)))
 }

@@ -4,7 +4,8 @@ ghost use Rattle.script_text.specs.Texts.{amd_fault_text, discard_text, reply_te
 ghost use Rattle.script_text.specs.Words.{port_text};
 
 use crate::Reply;
-use crate::text::{push_hex, push_port};
+use crate::hex_words::push_hex;
+use crate::text::push_port;
 use link_base::{Bytes, Discard, Memory, Place, PortName};
 use rlc_pdu::AmdFault;
 use rlc_status::StatusFault;
@@ -15,12 +16,12 @@ pub fn reply_text(alloc: Global, reply: &Reply) -> Result<Bytes, Memory>
     ensures { IfOk result (λ text. text ≡ reply_text reply.now) }
 {
     let mut out = String::new(alloc);
-    push_reply(alloc, &mut out, reply)?;
+    push_reply(&mut out, reply)?;
     Ok(Bytes::from_vec(out.into_bytes()))
 }
 
 /// Adds the text of a reply.
-pub(crate) fn push_reply(alloc: Global, out: &mut String, reply: &Reply) -> Result<(), AllocError>
+pub(crate) fn push_reply(out: &mut String, reply: &Reply) -> Result<(), AllocError>
     ensures { OnOk result (string_bytes out.new ≡ string_bytes out.old ++ reply_text reply.now) }
 {
     match reply {
@@ -66,7 +67,7 @@ pub(crate) fn push_reply(alloc: Global, out: &mut String, reply: &Reply) -> Resu
             status,
             number,
             bytes,
-        } => push_air(alloc, out, *ticket, *status, *number, bytes.as_slice()),
+        } => push_air(out, *ticket, *status, *number, bytes.as_slice()),
         Reply::Stale(a, b) => write!(out, "stale {a} {b}"),
         Reply::Stopped => out.push_str("stopped"),
         Reply::Nothing => out.push_str("nothing"),
@@ -89,7 +90,6 @@ fn push_word_and_port(out: &mut String, word: &str, port: PortName) -> Result<()
 }
 
 fn push_air(
-    alloc: Global,
     out: &mut String,
     ticket: u64,
     status: bool,
@@ -102,7 +102,7 @@ fn push_air(
 {
     let kind = if status { "status" } else { "data" };
     write!(out, "air {ticket} {kind} {number} ")?;
-    push_hex(alloc, out, bytes)
+    push_hex(out, bytes)
 }
 
 fn push_busy(out: &mut String, place: Place) -> Result<(), AllocError>

@@ -1,11 +1,15 @@
 // Pieces of text that lines, replies and events share.
-ghost use Rattle.std.specs.Prelude.{◌≡◌, ◌++◌, OnOk, string_bytes};
-ghost use Rattle.script_text.specs.Fields.{spaced};
-ghost use Rattle.script_text.specs.Words.{hex_text, port_text, way_text};
+ghost use Rattle.std.specs.Prelude.{◌≡◌, ◌++◌, ◌∷◌, map, OnOk, string_bytes};
+ghost use Rattle.std.specs.Fmt.{decimal};
+ghost use Rattle.script_text.specs.Fields.{field_text, spaced};
+ghost use Rattle.script_text.specs.Words.{hex_text, node_text, port_text, setting_text, side_text, size_text, timer_text, way_text};
+ghost use Rattle.script_text.specs.Lines.{goal_fields};
 ghost use Rattle.script_text.specs.Texts.{key_words};
 
-use link_base::{Key, PortName, Way};
-use std::alloc::{AllocError, Global};
+use crate::hex_words::push_hex;
+use bearer_map::SetName;
+use link_base::{Goal, Key, Node, PortName, Side, SnSize, Timer, Way};
+use std::alloc::AllocError;
 
 /// Adds the name of a port.
 pub(crate) fn push_port(out: &mut String, port: PortName) -> Result<(), AllocError>
@@ -50,13 +54,95 @@ pub(crate) fn push_key(out: &mut String, key: &Key) -> Result<(), AllocError>
     write!(out, " {remote} {drb} {way}")
 }
 
-/// Adds bytes as hexadecimal digits in lower case, or a dash where there are none.
-pub fn push_hex(alloc: Global, out: &mut String, bytes: &[u8]) -> Result<(), AllocError>
-    ensures { OnOk result (string_bytes out.new ≡ string_bytes out.old ++ hex_text bytes.now) }
+/// Adds a word behind a space.
+pub(crate) fn push_word(out: &mut String, word: &str) -> Result<(), AllocError>
+    ensures { OnOk result (string_bytes out.new ≡ string_bytes out.old ++ 32 ∷ word.now) }
 {
-    if bytes.is_empty() {
-        return out.push_str("-");
+    out.push_str(" ")?;
+    out.push_str(word)
+}
+
+/// Adds a number behind a space.
+pub(crate) fn push_number(out: &mut String, number: u64) -> Result<(), AllocError>
+    ensures { OnOk result (string_bytes out.new ≡ string_bytes out.old ++ 32 ∷ decimal number) }
+{
+    write!(out, " {number}")
+}
+
+/// Adds the name of a port behind a space.
+pub(crate) fn push_port_word(out: &mut String, port: PortName) -> Result<(), AllocError>
+    ensures { OnOk result (string_bytes out.new ≡ string_bytes out.old ++ 32 ∷ port_text port) }
+{
+    out.push_str(" ")?;
+    push_port(out, port)
+}
+
+/// Adds bytes behind a space.
+pub(crate) fn push_hex_word(out: &mut String, bytes: &[u8]) -> Result<(), AllocError>
+    ensures { OnOk result (string_bytes out.new ≡ string_bytes out.old ++ 32 ∷ hex_text bytes.now) }
+{
+    out.push_str(" ")?;
+    push_hex(out, bytes)
+}
+
+/// Adds a path, each of its words behind a space.
+pub(crate) fn push_goal(out: &mut String, goal: Goal) -> Result<(), AllocError>
+    ensures { OnOk result
+        (string_bytes out.new ≡ string_bytes out.old
+        ++ spaced (map field_text (goal_fields goal))) }
+{
+    match goal {
+        Goal::Direct => out.push_str(" direct"),
+        Goal::Relay(id) => write!(out, " relay {}", id.0),
     }
-    let hex = hex::encode(alloc, bytes)?;
-    out.push_str(&hex)
+}
+
+pub(crate) fn size_text(size: SnSize) -> &'static str
+    ensures { result.now ≡ size_text size }
+{
+    match size {
+        SnSize::S12 => "12",
+        SnSize::S18 => "18",
+    }
+}
+
+pub(crate) fn side_text(side: Side) -> &'static str
+    ensures { result.now ≡ side_text side }
+{
+    match side {
+        Side::Low => "low",
+        Side::High => "high",
+    }
+}
+
+pub(crate) fn timer_text(timer: Timer) -> &'static str
+    ensures { result.now ≡ timer_text timer }
+{
+    match timer {
+        Timer::Poll => "poll",
+        Timer::Reasm => "reasm",
+        Timer::Prohibit => "prohibit",
+    }
+}
+
+pub(crate) fn node_text(node: Node) -> &'static str
+    ensures { result.now ≡ node_text node }
+{
+    match node {
+        Node::Remote => "remote",
+        Node::Relay => "relay",
+        Node::Gnb => "gnb",
+    }
+}
+
+pub(crate) fn setting_text(name: SetName) -> &'static str
+    ensures { result.now ≡ setting_text name }
+{
+    match name {
+        SetName::Queue => "queue",
+        SetName::Report => "report",
+        SetName::PollPdu => "pollpdu",
+        SetName::PollByte => "pollbyte",
+        SetName::MaxRetx => "maxretx",
+    }
 }

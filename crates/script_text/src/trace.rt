@@ -7,7 +7,7 @@ use crate::reply_texts::push_reply;
 use crate::text::push_key;
 use crate::{Event, Line, Reply};
 use link_base::{ItemList, Key};
-use std::alloc::{AllocError, Global};
+use std::alloc::AllocError;
 
 /// What became of a key in a run.
 #[derive(Clone, Copy, Debug, PartialEq, Eq)]
@@ -27,7 +27,6 @@ pub type TotalList = ItemList<Total>;
 
 /// Adds what a line prints: its events and its reply, each a line of its own; nothing for the version, table lines and `end`.
 pub fn push_answer(
-    alloc: Global,
     out: &mut String,
     line: &Line,
     events: &[Event],
@@ -37,7 +36,7 @@ pub fn push_answer(
         (string_bytes out.new ≡ string_bytes out.old ++ entry_text line.now events.now reply.now) }
 {
     if is_printed(line) {
-        push_events_and_reply(alloc, out, events, reply)
+        push_events_and_reply(out, events, reply)
     } else {
         Ok(())
     }
@@ -67,7 +66,6 @@ fn is_printed(line: &Line) -> bool
 }
 
 fn push_events_and_reply(
-    alloc: Global,
     out: &mut String,
     events: &[Event],
     reply: &Reply,
@@ -76,17 +74,17 @@ fn push_events_and_reply(
         (string_bytes out.new ≡ string_bytes out.old ++ answer_text events.now reply.now) }
 {
     for event in events {
-        push_event_line(alloc, out, event)?;
+        push_event_line(out, event)?;
     }
-    push_reply(alloc, out, reply)?;
+    push_reply(out, reply)?;
     out.push_str("\n")
 }
 
-fn push_event_line(alloc: Global, out: &mut String, event: &Event) -> Result<(), AllocError>
+fn push_event_line(out: &mut String, event: &Event) -> Result<(), AllocError>
     ensures { OnOk result (string_bytes out.new ≡ string_bytes out.old ++ event_line event.now) }
 {
     out.push_str("  ")?;
-    push_event(alloc, out, event)?;
+    push_event(out, event)?;
     out.push_str("\n")
 }
 

@@ -108,9 +108,9 @@ fn writes_answers_and_last_lines(rt: HostRuntime) -> Result<(), Fail> {
     let sdu = copy_bytes(alloc, b"a")?;
     let events = [Event::Up { key: KEY, sdu }];
     let line = Line::Deliver { ticket: 1 };
-    push_answer(alloc, &mut out, &line, &events, &Reply::OkUp(1))?;
-    push_answer(alloc, &mut out, &Line::Go, &[], &Reply::Ok)?;
-    push_answer(alloc, &mut out, &Line::End, &[], &Reply::Ok)?;
+    push_answer(&mut out, &line, &events, &Reply::OkUp(1))?;
+    push_answer(&mut out, &Line::Go, &[], &Reply::Ok)?;
+    push_answer(&mut out, &Line::End, &[], &Reply::Ok)?;
     push_bad_line(&mut out, 3, "word")?;
     push_too_long(&mut out)?;
     let total = Total {
