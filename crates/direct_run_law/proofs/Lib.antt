@@ -1,0 +1,17 @@
+pub mod Carried
+pub mod Given
+pub mod Ends
+pub mod Feeding
+pub mod Chains
+pub mod Hops
+pub mod Pdcp
+pub mod Confirming
+pub mod Leading
+pub mod Hearing
+pub mod Beside
+pub mod Lines
+pub mod Delivering
+pub mod Honest
+pub mod Runs
+pub mod Opened
+pub mod TheLaws
