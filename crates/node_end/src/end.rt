@@ -1,5 +1,5 @@
 // The end of bearers at a node.
-ghost use Rattle.std.specs.Prelude.{◌≡◌, IfOk, IfErr, OnErr, IsSome, option_map, true};
+ghost use Rattle.std.specs.Prelude.{◌≡◌, IfOk, IfErr, OnErr, IsSome, option_map, true, false};
 ghost use Rattle.std.specs.Option.{option_copied};
 ghost use Rattle.bearer_map.specs.Contents.{Contents};
 ghost use Rattle.rlc_hop.specs.Side.{IsToSend};
@@ -9,10 +9,11 @@ ghost use Rattle.node_model.specs.State.{entity_at, outgoing_at, outgoing, incom
 ghost use Rattle.node_model.specs.Opening.{new_remote, new_gnb};
 ghost use Rattle.node_model.specs.Sides.{GrantsPort, ExpiresPort};
 ghost use Rattle.node_model.specs.Feeding.{wants_report};
-ghost use Rattle.node_ports.specs.Sides.{IsThere};
+ghost use Rattle.node_ports.specs.Sides.{IsThere, is_sent};
 ghost use Rattle.node_ports.specs.Table.{tx_of, rx_of};
 ghost use Rattle.node_bearers.specs.Calls.{HaveCounts, Submits};
 ghost use Rattle.node_end.specs.Direct.{BeginsDirect, AreDirect, side_of};
+ghost use Rattle.node_end.specs.Node.{name_of};
 
 use bearer_map::{RemoteRow, Tables};
 use link_base::{Expired, ItemList, Key, Memory, PortName, Remote, Side, Timer};
@@ -85,6 +86,13 @@ impl End {
         })
     }
 
+    /// The remote whose end this is, or None at the gNB.
+    pub fn remote(&self) -> Option<Remote>
+        ensures { name_of result ≡ self.now.name }
+    {
+        self.remote
+    }
+
     /// Which side of its ports this end has.
     pub(crate) fn side(&self) -> Side
         ensures { result ≡ side_of self.now.name }
@@ -105,18 +113,21 @@ impl End {
         ensures ok { IfOk result (λ count. Submits self.old key sdu.now count self.new) }
         ensures err { OnErr result (self.new ≡ self.old) }
         ensures fault { IfErr result (Refuses (outgoing self.old key).sender sdu.now) }
+        ensures name { self.new.name ≡ self.old.name }
     {
         let count = self.bearers.submit(key, sdu)?;
         Ok(count)
     }
 
     /// Sends one PDU of at most so many octets over a port (TS 38.322 clauses 5.2.3.1.1 and 5.3.4). `NoPort` comes exactly
-    /// where the port isn't open here.
+    /// where the port isn't open here. Where no PDU is sent all is as it was.
     ///
     /// An `Err` is want of memory. It comes only where the port is open, a PDU is to be sent over it, and so many octets are
     /// enough. All is then as it was.
     pub fn grant(&mut self, port: PortName, octets: u32) -> Result<PortGrant, Memory>
         ensures ok { IfOk result (λ answer. GrantsPort self.old port octets answer self.new) }
+        ensures still { IfOk result (λ answer. is_sent answer ≡ false → self.new ≡ self.old) }
+        ensures name { self.new.name ≡ self.old.name }
         ensures err { OnErr result (self.new ≡ self.old) }
         ensures memory { OnErr result
             (IsThere (λ e. IsToSend e.tx e.rx octets) (entity_at self.old port)) }
@@ -128,15 +139,17 @@ impl End {
     /// A timer of a port runs out (TS 38.322 clause 7.3). None comes exactly where the port isn't open here. It takes no
     /// memory.
     pub fn expire(&mut self, port: PortName, timer: Timer) -> Option<Expired>
-        ensures { ExpiresPort self.old port timer result self.new }
+        ensures expires { ExpiresPort self.old port timer result self.new }
+        ensures name { self.new.name ≡ self.old.name }
     {
         self.ports.expire(port, timer)
     }
 
     /// A status report about a key that is received here is wanted (TS 38.323 clause 5.4.1). Of another key nothing changes.
     pub fn want_report(&mut self, key: Key)
-        ensures { self.new ≡ set_incoming self.old
+        ensures wants { self.new ≡ set_incoming self.old
             (record (incoming self.old key) { wanted = true }) }
+        ensures name { self.new.name ≡ self.old.name }
     {
         self.bearers.want_report(key);
     }

@@ -22,6 +22,7 @@ impl End {
     pub fn feed(&mut self) -> Result<KeyList, Memory>
         requires { All HasNumbers self.old.ports }
         ensures ok { (t : Contents) → IfOk result (λ given. Feeds t self.old given self.new) }
+        ensures name { self.new.name ≡ self.old.name }
         ensures err { (t : Contents) → OnErr result (StopsFeeding t self.old self.new) }
     {
         let mut given = KeyList::new(self.alloc);
@@ -43,6 +44,7 @@ impl End {
             → OnOk result (FeedsReportOf t self.old key given.old given.new self.new) }
         ensures keys { OnOk result (KeepsKeys self.old self.new) }
         ensures numbers { OnOk result (HaveNumbersLeft self.new) }
+        ensures name { self.new.name ≡ self.old.name }
         ensures err { OnErr result (self.new ≡ self.old) }
         ensures memory { (t : Contents) (key : Key) → Receives self.old place key
             → OnErr result (IsToReport t self.old key) }
@@ -80,6 +82,7 @@ impl End {
             → OnOk result (FeedsData t key self.old self.new) }
         ensures keys { OnOk result (KeepsKeys self.old self.new) }
         ensures numbers { OnOk result (HaveNumbersLeft self.new) }
+        ensures name { self.new.name ≡ self.old.name }
         ensures err { (t : Contents) (key : Key) → Sends self.old place key
             → OnErr result (StopsGiving t key self.old self.new) }
     {

@@ -26,6 +26,7 @@ impl End {
         requires { (entity : Entity) → entity_at self.old pdu.now.port ≡ Some entity → IsSmall entity }
         ensures ok { (t : Contents) → IfOk result
             (λ answer. HearsPdu t self.old (side_of self.old.name) pdu.now answer self.new) }
+        ensures name { self.new.name ≡ self.old.name }
         ensures err { OnErr result (StopsHearing self.old pdu.now self.new) }
     {
         if let Some(refusal) = self.ports.refusal(pdu) {
@@ -41,6 +42,7 @@ impl End {
         requires { IsPortOf (side_of self.old.name) (map in_key self.old.incoming) port }
         ensures ok { (t : Contents) (side : PortSide) → side_name side ≡ port → IfOk result
             (λ answer. Follows t self.old (side_of self.old.name) side hop answer self.new) }
+        ensures name { self.new.name ≡ self.old.name }
         ensures same { OnErr result (self.new ≡ self.old) }
         ensures err { OnErr result (StopsFollowing self.old hop) }
     {

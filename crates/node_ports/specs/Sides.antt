@@ -1,9 +1,10 @@
 -- What the calls of a side of a port do.
-use Rattle.std.specs.Prelude.{◌≡◌, ℕ, ◌<◌, ◌≤◌, ◌^◌, List, Option, Some, None}
+use Rattle.std.specs.Prelude.{◌≡◌, ℕ, ◌<◌, ◌≤◌, ◌^◌, Bool, true, false, List, Option, Some, None}
 use Rattle.link_base.specs.declared.names.Timer.{Timer}
 use Rattle.link_base.specs.declared.rlc_words.Tag.{Tag}
 use Rattle.link_base.specs.declared.rlc_words.Expired.{Expired}
 use Rattle.rlc_model.specs.declared.hop.HopHeard.{HopHeard}
+use Rattle.rlc_model.specs.declared.hop.HopGrant.TheVariants.{Sent}
 use Rattle.rlc_model.specs.Tx.{tx_next}
 use Rattle.rlc_model.specs.Rx.{rx_next}
 use Rattle.rlc_model.specs.Sides.{Entity}
@@ -57,3 +58,8 @@ IsToSendAt side octets = IsThere (λ e. IsToSend e.tx e.rx octets) side.entity
 -- octets make something grow at an open side
 abbrev pub HearsNewsAt : PortSide → List ℕ → Type 0
 HearsNewsAt side bytes = IsThere (λ e. HearsNews e.tx e.rx bytes) side.entity
+
+-- a PDU is sent by this answer
+abbrev pub is_sent : PortGrant → Bool
+is_sent (Hop epoch (Sent status number bytes)) = true
+is_sent answer = false

@@ -1,5 +1,5 @@
 // The sides of ports that a node has.
-ghost use Rattle.std.specs.Prelude.{◌≡◌, ◌<◌, ◌≤◌, ◌^◌, true, length, Some, is_some, IsNone, IfOk, OnOk, OnErr, option_map};
+ghost use Rattle.std.specs.Prelude.{◌≡◌, ◌<◌, ◌≤◌, ◌^◌, true, false, length, Some, is_some, IsNone, IfOk, OnOk, OnErr, option_map};
 ghost use Rattle.std.specs.Option.{option_copied};
 ghost use Rattle.link_base.specs.declared.limits.TheConstants.{LONGEST_RLC_SDU};
 ghost use Rattle.rlc_model.specs.Sides.{Entity};
@@ -10,7 +10,7 @@ ghost use Rattle.node_model.specs.Opening.{new_remote, new_relay, new_gnb};
 ghost use Rattle.node_model.specs.Sides.{GrantsPort, ExpiresPort};
 ghost use Rattle.node_model.specs.Hearing.{hear_refusal};
 ghost use Rattle.node_model.specs.Feeding.{room_of};
-ghost use Rattle.node_ports.specs.Sides.{IsThere, IsSmall};
+ghost use Rattle.node_ports.specs.Sides.{IsThere, IsSmall, is_sent};
 ghost use Rattle.node_ports.specs.Table.{side_in, entity_in, tx_of, rx_of};
 ghost use Rattle.node_ports.specs.Calls.{HearsPort, GivesPort};
 
@@ -148,7 +148,7 @@ impl Ports {
     }
 
     /// Sends one PDU of at most so many octets over a port (TS 38.322 clauses 5.2.3.1.1 and 5.3.4). `NoPort` comes
-    /// exactly where the port isn't open here.
+    /// exactly where the port isn't open here. Where no PDU is sent all is as it was.
     ///
     /// An `Err` is want of memory. It comes only where the port is open, a PDU is to be sent over it, and so many
     /// octets are enough. All is then as it was.
@@ -156,6 +156,7 @@ impl Ports {
         ensures ok { (n : Node) → n.ports ≡ self.old
             → IfOk result (λ answer. GrantsPort n port octets answer
             (record n { ports = self.new })) }
+        ensures still { IfOk result (λ answer. is_sent answer ≡ false → self.new ≡ self.old) }
         ensures err { OnErr result (self.new ≡ self.old) }
         ensures memory { OnErr result
             (IsThere (λ e. IsToSend e.tx e.rx octets) (entity_in self.old port)) }

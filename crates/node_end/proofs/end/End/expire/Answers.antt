@@ -9,5 +9,5 @@ invariant_of-self c =
     let new = record n { ports = c.expire.new.self } in
     still_direct n new refl refl (expiry_keeps n c.args.port c.args.timer c.expire.result new (c.expire.ensures n refl)) c.self.invariant
 
-pub returns : goal.returns
-returns c = rw (← c.self.view_is) (c.expire.ensures (node_of c.self.inside) refl)
+pub returns-clause-expires : goal.returns-clause-expires
+returns-clause-expires c = rw (← c.self.view_is) (c.expire.ensures (node_of c.self.inside) refl)

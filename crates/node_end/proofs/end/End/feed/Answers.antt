@@ -1,4 +1,4 @@
-use Rattle.std.proofs.Common.{◌<◌, ◌≤◌, length, refl, arith}
+use Rattle.std.proofs.Common.{◌<◌, ◌≤◌, length, refl, ◌∙◌, arith}
 use Rattle.std.proofs.lemmas.Result.{err_from_is_err_and}
 use Rattle.node_end.proofs.Rooms.{numbers_left}
 use Rattle.node_end.proofs.Feeds.{same_long, keeps_both, next_report, stops_at_report, next_data, stops_at_data, all_reports, all_data}
@@ -7,7 +7,7 @@ use Rattle.node_end.proofs.end.End.feed.Goals as goal
 pub loop-place-init : goal.loop-place-init
 loop-place-init c = record {
   reports = λ t. (c.new-given.ensures, refl);
-  keys = record { sent = refl; received = refl };
+  keys = record { name = refl; sent = refl; received = refl };
   numbers = numbers_left c.args.self.now c.requires;
   sent = rw (← c.self.view_is) c.len-place-end.ensures.sent;
   received = rw (← c.self.view_is) c.len-place-end.ensures.received;
@@ -41,7 +41,7 @@ loop-place-preserved c =
 pub loop-place-2-init : goal.loop-place-2-init
 loop-place-2-init c = record {
   data_pdus = λ t. refl;
-  keys = record { sent = refl; received = refl };
+  keys = record { name = refl; sent = refl; received = refl };
   numbers = c.loop-place.invariant.numbers;
   sent = rw (← c.self-2.view_is) c.len-place-end-2.ensures.sent;
 }
@@ -78,3 +78,12 @@ returns-clause-ok c = λ t.
       reports = all_reports t c.args.self.now c.loop-place.self c.loop-place.place c.loop-place.given le (c.loop-place.invariant.reports t);
       data_pdus = all_data t c.loop-place.self c.loop-place-2.self c.loop-place-2.place le-2 (c.loop-place-2.invariant.data_pdus t);
     }
+
+pub returns-in_err-feed_report-clause-name : goal.returns-in_err-feed_report-clause-name
+returns-in_err-feed_report-clause-name c = c.feed_report.ensures.name ∙ c.loop-place.invariant.keys.name
+
+pub returns-in_err-feed_data-clause-name : goal.returns-in_err-feed_data-clause-name
+returns-in_err-feed_data-clause-name c = c.feed_data.ensures.name ∙ c.loop-place-2.invariant.keys.name ∙ c.loop-place.invariant.keys.name
+
+pub returns-clause-name : goal.returns-clause-name
+returns-clause-name c = c.loop-place-2.invariant.keys.name ∙ c.loop-place.invariant.keys.name

@@ -22,7 +22,7 @@ loop-room-init c = record {
   some = λ t. none;
   left = rw c.direct_port-port.ensures at c.room-room.ensures;
   name = refl;
-  keys = record { sent = refl; received = refl };
+  keys = record { name = refl; sent = refl; received = refl };
   sides = refl;
   numbers = rw (← c.self.view_is) at c.requires.numbers;
   there = c.key-key.ensures.sender;

@@ -26,6 +26,7 @@ returns-then-not-can_report-clause-keys c =
     let here = key_at (map in_key ends.incoming) c.args.place within in
     let dropped = c.drop_report.ensures here.0 here.1 in
     rw (← c.self.view_is) (record {
+      name = refl;
       sent = ap (λ (m : Node). map out_key m.outgoing) dropped;
       received = ap (λ (m : Node). map in_key m.incoming) dropped ∙ in_keys_kept ends _;
     })
@@ -61,6 +62,7 @@ pub returns-clause-keys : goal.returns-clause-keys
 returns-clause-keys c =
     let given = c.report_given.ensures (back c.key-sent.result) c.key-sent.ensures.received in
     rw (← c.self.view_is) (record {
+      name = refl;
       sent = ap (λ (m : Node). map out_key m.outgoing) given;
       received = ap (λ (m : Node). map in_key m.incoming) given ∙ in_keys_kept c.self.inside.bearers _;
     })

@@ -1,0 +1,9 @@
+pub mod Names
+pub mod Ends
+pub mod Opening
+pub mod Hearing
+pub mod Lines
+pub mod Feeding
+pub mod Told
+pub mod Confirming
+pub mod Rising
