@@ -329,7 +329,7 @@ same_remote plan kinds.Relay = refl
 same_remote plan kinds.Gnb = refl
 
 -- a node that isn't refused has not applied the plan
-not_applied : (c : Chain) (remote : Remote) (kind : NodeKind) (plan : Plan) → plan_at c remote ≡ Some plan → apply_refusal c remote kind ≡ None → has_applied plan kind ≡ false
+pub not_applied : (c : Chain) (remote : Remote) (kind : NodeKind) (plan : Plan) → plan_at c remote ≡ Some plan → apply_refusal c remote kind ≡ None → has_applied plan kind ≡ false
 not_applied c remote kind plan its none = first (Rattle.std.specs.Prelude.not (Rattle.node_model.specs.Tables.has_remote c.tables remote)) none
   where
     last : (a : Bool) → has_applied plan kind ≡ a → cond a (Some Rattle.script_text.specs.declared.reply.Reply.TheVariants.Already) None ≡ None → has_applied plan kind ≡ false

@@ -61,7 +61,7 @@ one_is p rest s sides name here others q = elim (cases_port q p) [
 ]
 
 -- what goes off the air in a burst
-air_case : (air : List (Option Pdu)) (e : Event) → (air_after air e ≡ air) ⊎ ((ticket : ℕ) × (air_after air e ≡ off_air air ticket))
+pub air_case : (air : List (Option Pdu)) (e : Event) → (air_after air e ≡ air) ⊎ ((ticket : ℕ) × (air_after air e ≡ off_air air ticket))
 air_case air (HeardTicket ticket Gone) = inl refl
 air_case air (HeardTicket ticket (Stale number next)) = inl refl
 air_case air (HeardTicket ticket reply) = inr (ticket, refl)

@@ -150,7 +150,7 @@ module _ (t : Contents) where
         (both_new _ _ (many_new (λ (row : RemoteRow). map (direct_side (settings t) row.goal) (bearers_of t row.remote)) (λ row. directs_new row.goal row.remote)) uus_new, tt),
       )
 
-  side_new : (x : NodeName) (q : PortName) (s : PortSide) → view (opened t) x q ≡ Some s → IsNew t q s
+  pub side_new : (x : NodeName) (q : PortName) (s : PortSide) → view (opened t) x q ≡ Some s → IsNew t q s
   side_new x q s = go (find (λ (n : Node). is_node x n.name) (opened t).nodes) refl
     where
       go : (o : Option Node) → find (λ (n : Node). is_node x n.name) (opened t).nodes ≡ o → side_at (unwrap_or o (no_node x)) q ≡ Some s → IsNew t q s

@@ -1,0 +1,11 @@
+pub mod Standing
+pub mod Still
+pub mod Attached
+pub mod Knowing
+pub mod Switched
+pub mod Air
+pub mod Begun
+pub mod Along
+pub mod Tickets
+pub mod Leading
+pub mod TheLaws
