@@ -7,3 +7,4 @@ pub mod Feeding
 pub mod Told
 pub mod Confirming
 pub mod Rising
+pub mod Bearers

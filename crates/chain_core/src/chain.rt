@@ -2,8 +2,8 @@
 ghost use Rattle.std.specs.Prelude.{◌≡◌, ◌<◌, ◌^◌, ◌++◌, IfOk, OnOk, true, [], length, count_by, is_some, map, flat_map, List};
 ghost use Rattle.std.specs.List.{list_any, filter_map, cons_option};
 ghost use Rattle.bearer_map.specs.Contents.{Contents};
-ghost use Rattle.rlc_model.specs.Sides.{sender_of, hearer_of, way_from};
-ghost use Rattle.node_model.specs.Names.{owner, is_key, is_way, key_of};
+ghost use Rattle.rlc_model.specs.Sides.{sender_of, hearer_of};
+ghost use Rattle.node_model.specs.Names.{owner, is_key};
 ghost use Rattle.node_bearers.specs.Calls.{HaveCounts};
 ghost use Rattle.node_end.specs.Direct.{AreDirect};
 ghost use Rattle.rlc_model.specs.Hop.{on_air};
@@ -11,10 +11,11 @@ ghost use Rattle.chain_model.specs.State.{Chain as AChain, opened, entity_on};
 ghost use Rattle.chain_model.specs.Lines.{Granted, is_handed_over};
 ghost use Rattle.chain_model.specs.Steps.{Does, reporting};
 ghost use Rattle.node_model.specs.Tables.{has_bearer, keys, keys_of_row};
-ghost use Rattle.chain_core.specs.Chain.{HasEnds, HasSmallNumbers, Carries, Arrives, Feeds, HasOwnTags, Plays, watched, key_heard, key_sent, confirmed_of, risen, total_of, is_direct_line};
+ghost use Rattle.chain_core.specs.Chain.{HasEnds, HasSmallNumbers, Carries, Arrives, Feeds, HasOwnTags, Plays, watched, key_heard, confirmed_of, risen, total_of, is_direct_line};
 ghost use Rattle.chain_core.specs.Nodes.{node_in, IsSmallAt, HaveNumbers};
 ghost use Rattle.chain_core.specs.Told.{Tells};
 
+use crate::keys::{bearer_rank, hearer_of, is_key, is_row, key_of, key_sent, sender_of, way_from};
 use crate::nodes::Nodes;
 use crate::telling::{submit_reply, tell_expired, tell_heard};
 use bearer_map::{BearerRow, Tables};
@@ -67,14 +68,17 @@ impl Chain {
         })
     }
 
-    // Whether the tables have a bearer.
+    // Whether the tables have a bearer, found in time that grows with the logarithm of their number.
     fn has_bearer(&self, remote: Remote, drb: Drb) -> bool
         ensures { result ≡ has_bearer self.now.tables remote drb }
     {
-        self.tables
-            .bearers()
-            .iter()
-            .any(|row| remote.0 == row.remote.0 && drb.0 == row.drb.0)
+        let rows = self.tables.bearers();
+        let rank = bearer_rank(remote, drb);
+        let place = rows.partition_point(|row| bearer_rank(row.remote, row.drb) < rank);
+        if place >= rows.len() {
+            return false;
+        }
+        is_row(&rows[place], remote, drb)
     }
 
     /// Carries out a line, and logs its events: those of the line itself, the confirmed number that rose, and the reports that
@@ -391,27 +395,6 @@ fn is_among(key: Key, keys: &[Key]) -> bool
     keys.iter().any(|other| is_key(key, *other))
 }
 
-// Whether two keys are one.
-fn is_key(a: Key, b: Key) -> bool
-    ensures { result ≡ is_key a b }
-{
-    a.remote.0 == b.remote.0 && a.drb.0 == b.drb.0 && is_way(a.way, b.way)
-}
-
-// Whether two ways are one.
-fn is_way(a: Way, b: Way) -> bool
-    ensures { result ≡ is_way a b }
-{
-    matches!((a, b), (Way::Ul, Way::Ul) | (Way::Dl, Way::Dl))
-}
-
-// A bearer in one way.
-fn key_of(remote: Remote, drb: Drb, way: Way) -> Key
-    ensures { result ≡ key_of remote drb way }
-{
-    Key { remote, drb, way }
-}
-
 // A PDU comes to the node that it goes to. Answers the reply, and whether it was handed over.
 fn come(nodes: &mut Nodes, pdu: &Pdu, log: &mut EventList) -> Result<(Reply, bool), Memory>
     requires { IsSmallAt (node_in nodes.old (owner (hearer_of pdu.now.way) pdu.now.port))
@@ -426,16 +409,6 @@ fn come(nodes: &mut Nodes, pdu: &Pdu, log: &mut EventList) -> Result<(Reply, boo
     Ok((reply, is_heard))
 }
 
-// The key that a side of a direct port sends.
-fn key_sent(side: Side, port: PortName) -> Option<Key>
-    ensures { result ≡ key_sent side port }
-{
-    match port {
-        PortName::Direct(remote, drb) => Some(key_of(remote, drb, way_from(side))),
-        PortName::Pc5(..) | PortName::Uu(_) => None,
-    }
-}
-
 // Whether a PDU was handed over.
 fn is_handed_over(heard: &NodeHeard) -> bool
     ensures { result ≡ is_handed_over heard.now }
@@ -444,34 +417,4 @@ fn is_handed_over(heard: &NodeHeard) -> bool
         heard,
         NodeHeard::NoPort | NodeHeard::Air(_) | NodeHeard::Held
     )
-}
-
-// The side that hears what goes in a way.
-fn hearer_of(way: Way) -> Side
-    ensures { result ≡ hearer_of way }
-{
-    match way {
-        Way::Ul => Side::High,
-        Way::Dl => Side::Low,
-    }
-}
-
-// The side that sends in a way.
-fn sender_of(way: Way) -> Side
-    ensures { result ≡ sender_of way }
-{
-    match way {
-        Way::Ul => Side::Low,
-        Way::Dl => Side::High,
-    }
-}
-
-// The way in which a side sends.
-fn way_from(side: Side) -> Way
-    ensures { result ≡ way_from side }
-{
-    match side {
-        Side::Low => Way::Ul,
-        Side::High => Way::Dl,
-    }
 }

@@ -5,6 +5,7 @@
 #![tactic(auto)]
 
 mod chain;
+mod keys;
 mod nodes;
 mod telling;
 
