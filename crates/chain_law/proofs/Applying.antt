@@ -33,7 +33,8 @@ use Rattle.chain_model.specs.State.{Chain, node_at, set_node, plan_at, set_plan}
 use Rattle.chain_model.specs.Plans.{has_applied, marks, is_open}
 use Rattle.chain_model.specs.Told.{kind_of}
 use Rattle.chain_model.specs.Lines.{apply_refusal, node_refusal, Applies, closed}
-use Rattle.chain_law.specs.Entities.{port_size, port_settings, next_epoch}
+use Rattle.chain_model.specs.Sizes.{port_size}
+use Rattle.chain_law.specs.Entities.{port_settings, next_epoch}
 use Rattle.node_model.proofs.Names.{remote_is, node_is, node_refl, port_refl, cases_node, cases_port, cases_owner, owner_side}
 use Rattle.node_model.proofs.Finding.{find_map, find_none, each_map, each_replaced}
 use Rattle.chain_law.specs.Foundations.{RlcLaws}

@@ -32,7 +32,8 @@ use Rattle.node_model.specs.Tables.{settings, is_open_on}
 use Rattle.node_model.specs.Opening.{new_entity, new_side, direct_side, pc5_side, uu_side, bearers_of, pc5s_of, new_outgoing, new_remote, new_relay, new_gnb}
 use Rattle.chain_model.specs.declared.plan.Plan.{Plan}
 use Rattle.chain_model.specs.State.{first_plan, opened}
-use Rattle.chain_law.specs.Entities.{direct_size, pc5_size, uu_size, port_size, port_settings, next_epoch}
+use Rattle.chain_model.specs.Sizes.{direct_size, pc5_size, uu_size, port_size}
+use Rattle.chain_law.specs.Entities.{port_settings, next_epoch}
 use Rattle.node_model.proofs.Names.{port_is}
 use Rattle.node_model.proofs.Finding.{find_passes, find_append, find_flat, find_map, find_picked, each_found, each_append, each_made, each_map, each_flat}
 use Rattle.chain_law.proofs.Stands.{Stands, sides_of}

@@ -18,7 +18,8 @@ use Rattle.rlc_law.specs.Ports.{Port, Ports, hop_of, HasMade, MovesSide, IsSide,
 use Rattle.rlc_law.specs.Sides.{Sides, Epochs, SidesFit}
 use Rattle.node_model.specs.Names.{NodeName, is_node, owner}
 use Rattle.node_model.specs.State.{PortSide, Node, side_at, entity_of}
-use Rattle.chain_law.specs.Entities.{port_size, port_settings}
+use Rattle.chain_model.specs.Sizes.{port_size}
+use Rattle.chain_law.specs.Entities.{port_settings}
 use Rattle.node_model.proofs.Names.{cases_node, cases_port, cases_owner, owner_side, node_refl, node_apart}
 use Rattle.chain_law.proofs.Counting.{is_grant, moves_same, air_more, air_less, air_long}
 use Rattle.chain_law.specs.Foundations.{RlcLaws}

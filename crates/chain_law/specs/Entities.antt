@@ -1,17 +1,11 @@
 -- The RLC entities of a chain and what is on its air, as what the two sides of ports have made.
-use Rattle.std.specs.Prelude.{◌≡◌, ℕ, ◌+◌, ◌<◌, ◌≤◌, ◌==◌, ◌&&◌, true, List, length, find, Some, option_map, unwrap_or, if◌then◌else◌}
-use Rattle.link_base.specs.declared.names.SnSize.{SnSize}
-use Rattle.link_base.specs.declared.names.SnSize.TheVariants.{S12}
+use Rattle.std.specs.Prelude.{◌≡◌, ℕ, ◌+◌, ◌<◌, ◌≤◌, true, List, length, Some, if◌then◌else◌}
 use Rattle.link_base.specs.declared.names.Node.{Node as NodeKind}
 use Rattle.link_base.specs.declared.names.Remote.{Remote}
 use Rattle.link_base.specs.declared.names.PortName.{PortName}
-use Rattle.link_base.specs.declared.names.PortName.TheVariants.{Direct, Pc5, Uu}
 use Rattle.link_base.specs.declared.names.Side.{Side}
 use Rattle.link_base.specs.declared.names.Way.{Way}
 use Rattle.link_base.specs.declared.limits.TheConstants.{LONGEST_RLC_SDU}
-use Rattle.bearer_map.specs.declared.rows.BearerRow.{BearerRow}
-use Rattle.bearer_map.specs.declared.rows.Pc5Row.{Pc5Row}
-use Rattle.bearer_map.specs.declared.rows.UuRow.{UuRow}
 use Rattle.bearer_map.specs.Contents.{Contents}
 use Rattle.rlc_model.specs.declared.hop.HopHeard.{HopHeard}
 use Rattle.rlc_model.specs.declared.hop.HopHeard.TheVariants.{Amd, Status, BadAmd, BadStatus}
@@ -21,30 +15,13 @@ use Rattle.rlc_model.specs.declared.transmitter.StatusHeard.TheVariants.{Acked, 
 use Rattle.rlc_model.specs.Hop.{on_air}
 use Rattle.rlc_law.specs.Ports.{Settings, Port, Ports, hop_of, PortsFit}
 use Rattle.rlc_law.specs.Sides.{Epochs, SidesFit}
-use Rattle.node_model.specs.Names.{owner, is_remote, is_of}
+use Rattle.node_model.specs.Names.{owner, is_of}
 use Rattle.node_model.specs.Tables.{settings}
 use Rattle.chain_model.specs.declared.plan.Plan.{Plan}
 use Rattle.chain_model.specs.State.{Chain, plan_at, entity_on}
 use Rattle.chain_model.specs.Plans.{has_applied}
+use Rattle.chain_model.specs.Sizes.{port_size}
 use Rattle.chain_model.specs.Told.{kind_of}
-
--- the size of the SNs of a bearer's direct port
-abbrev pub direct_size : BearerRow → SnSize
-direct_size row = row.direct
-
--- the size of the SNs of a PC5 port
-abbrev pub pc5_size : Pc5Row → SnSize
-pc5_size row = row.size
-
--- the size of the SNs of a Uu port
-abbrev pub uu_size : UuRow → SnSize
-uu_size row = row.size
-
--- the size of the SNs of a port; that of 12 bits stands for one that the tables don't have
-abbrev pub port_size : Contents → PortName → SnSize
-port_size t (Direct remote drb) = unwrap_or (option_map direct_size (find (λ (row : BearerRow). is_remote remote row.remote && (drb.0 == row.drb.0)) t.bearers)) S12
-port_size t (Pc5 remote chan) = unwrap_or (option_map pc5_size (find (λ (row : Pc5Row). is_remote remote row.remote && (chan.0 == row.chan.0)) t.pc5s)) S12
-port_size t (Uu chan) = unwrap_or (option_map uu_size (find (λ (row : UuRow). chan.0 == row.chan.0) t.uus)) S12
 
 -- what the entities of a port are configured with
 abbrev pub port_settings : Contents → PortName → Settings

@@ -1,7 +1,6 @@
 -- What the PDUs that a run sends say: each data PDU is a piece of an SDU of the end that sends it, or of one that the relay heard; each STATUS PDU
 -- is true.
 use Rattle.std.specs.Prelude.{◌≡◌, ◌⊎◌, ◌↔◌, ℕ, ◌+◌, ◌%◌, ◌<◌, ◌≤◌, true, false, List, [], ◌∷◌, ◌++◌, length, slice_index_or, Some, None, Contains, Ok as OkOf}
-use Rattle.link_base.specs.declared.names.SnSize.{SnSize}
 use Rattle.link_base.specs.declared.names.PortName.{PortName}
 use Rattle.link_base.specs.declared.names.Way.{Way}
 use Rattle.link_base.specs.declared.names.Key.{Key}
@@ -25,6 +24,7 @@ use Rattle.node_model.specs.Tables.{first_count}
 use Rattle.node_model.specs.Routing.{Onward, Leads}
 use Rattle.node_model.specs.Feeding.{port_on, under}
 use Rattle.chain_model.specs.Told.{air_entry, known}
+use Rattle.chain_model.specs.Sizes.{port_size}
 use Rattle.chain_model.specs.Book.{submitted}
 use Rattle.chain_model.specs.Heard.{HopOf, HasByte, HasEnd, HeardAt, CompletesAt, IsHeard}
 
@@ -62,6 +62,7 @@ pub record IsPassed (t : Contents) (h : List Entry) (port : PortName) (sdu : Lis
   pub entry : Entry
   pub later : List Entry
   pub its : h ≡ later ++ entry ∷ p.before
+  pub its_size : p.hop.size ≡ port_size t p.hop.port
   pub at_relay : owner (hearer_of p.hop.way) p.hop.port ≡ AtRelay
   pub completes : CompletesAt p.hop p.before entry p.number sdu
   pub route : Route
@@ -70,11 +71,11 @@ pub record IsPassed (t : Contents) (h : List Entry) (port : PortName) (sdu : Lis
 
 -- the SDU of each number of each hop: at an end it was given by the end, at the relay it was heard. What the relay sends over a hop comes from
 -- different completions, and what came over one ingress port keeps that port's order
-pub record Carried (t : Contents) (size : PortName → SnSize) (h : List Entry) : Type 0 where
+pub record Carried (t : Contents) (h : List Entry) : Type 0 where
   pub sdu_of : PortName → Way → ℕ → ℕ → List ℕ
   pub passed : PortName → Way → ℕ → ℕ → Passed
   pub pieces : (ticket : ℕ) (pdu : Pdu) → air_entry h ticket ≡ Some pdu → pdu.status ≡ false
-      → (fields : Amd) × IsAmd (size pdu.port) fields pdu.bytes × (fields.sn ≡ pdu.number % modulus (size pdu.port)) × IsPiece (sdu_of pdu.port pdu.way pdu.epoch pdu.number) fields
+      → (fields : Amd) × IsAmd (port_size t pdu.port) fields pdu.bytes × (fields.sn ≡ pdu.number % modulus (port_size t pdu.port)) × IsPiece (sdu_of pdu.port pdu.way pdu.epoch pdu.number) fields
   pub origin : (ticket : ℕ) (pdu : Pdu) → air_entry h ticket ≡ Some pdu → pdu.status ≡ false
       → ((g : List Entry) × IsBefore g h × IsGiven t g pdu.port pdu.way (sdu_of pdu.port pdu.way pdu.epoch pdu.number))
       ⊎ IsPassed t h pdu.port (sdu_of pdu.port pdu.way pdu.epoch pdu.number) (passed pdu.port pdu.way pdu.epoch pdu.number)
@@ -92,17 +93,17 @@ pub record IsTrueOfDelivered (hop : HopOf) (h : List Entry) (ack : ℕ) (status 
   pub missing : (n p : ℕ) → n < ack → Names hop.size ack status n → ((l : ℕ) → HasEnd hop h n l → p < l) → SaysMissing hop.size ack status n p ↔ ((b : ℕ) → HasByte hop h n p b → ⊥)
 
 -- the hop about which a STATUS speaks: the other way of its port
-abbrev pub about : (PortName → SnSize) → Pdu → HopOf
-about size pdu = record { size = size pdu.port; port = pdu.port; way = flip pdu.way; epoch = pdu.epoch }
+abbrev pub about : Contents → Pdu → HopOf
+about t pdu = record { size = port_size t pdu.port; port = pdu.port; way = flip pdu.way; epoch = pdu.epoch }
 
 -- behind a history the line sends a STATUS that is true
-pub record SendsTrue (size : PortName → SnSize) (h : List Entry) (pdu : Pdu) : Type 0 where
+pub record SendsTrue (t : Contents) (h : List Entry) (pdu : Pdu) : Type 0 where
   pub status : Status
-  pub reads : IsStatus (size pdu.port) status pdu.bytes
-  pub its_ack : status.ack ≡ pdu.number % modulus (size pdu.port)
-  pub is_true : IsTrueOfDelivered (about size pdu) h pdu.number status
+  pub reads : IsStatus (port_size t pdu.port) status pdu.bytes
+  pub its_ack : status.ack ≡ pdu.number % modulus (port_size t pdu.port)
+  pub is_true : IsTrueOfDelivered (about t pdu) h pdu.number status
 
 -- each STATUS PDU of a history is true of what had been delivered before it
-abbrev pub ReportsTruly : (PortName → SnSize) → List Entry → Type 0
-ReportsTruly size h = (later before : List Entry) (e : Entry) (ticket : ℕ) (pdu : Pdu) → h ≡ later ++ e ∷ before
-    → air_entry before ticket ≡ None → air_entry (e ∷ before) ticket ≡ Some pdu → pdu.status ≡ true → SendsTrue size before pdu
+abbrev pub ReportsTruly : Contents → List Entry → Type 0
+ReportsTruly t h = (later before : List Entry) (e : Entry) (ticket : ℕ) (pdu : Pdu) → h ≡ later ++ e ∷ before
+    → air_entry before ticket ≡ None → air_entry (e ∷ before) ticket ≡ Some pdu → pdu.status ≡ true → SendsTrue t before pdu

@@ -17,9 +17,10 @@ use Rattle.node_model.specs.Names.{owner, sink}
 use Rattle.node_model.specs.Tables.{first_count}
 use Rattle.node_model.specs.Routing.{ToPdcp, Leads}
 use Rattle.chain_model.specs.Told.{air_entry, hears_ticket, known}
+use Rattle.chain_model.specs.Sizes.{port_size}
 use Rattle.chain_model.specs.Book.{handed}
 
--- a hop in one way and one epoch, with the size of its port's SNs
+-- a hop in one way and one epoch, read with SNs of a size
 pub record HopOf : Type 0 where
   pub size : SnSize
   pub port : PortName
@@ -70,6 +71,7 @@ pub record CompletesAt (hop : HopOf) (h : List Entry) (e : Entry) (number : ℕ)
 -- then, and is the PDCP data PDU with this SN and SDU
 pub record Completes (t : Contents) (row : BearerRow) (key : Key) (h : List Entry) (e : Entry) (hearing : Hearing) : Type 0 where
   pub hop : HopOf
+  pub its_size : hop.size ≡ port_size t hop.port
   pub number : ℕ
   pub whole : List ℕ
   pub completes : CompletesAt hop h e number whole

@@ -8,6 +8,7 @@ pub mod Resting
 pub mod Draining
 pub mod Runs
 pub mod Told
+pub mod Sizes
 pub mod Book
 pub mod Heard
 pub mod Carried
