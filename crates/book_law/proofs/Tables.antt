@@ -114,7 +114,7 @@ module _ {T : Type 0} (view : Chain → T) (steady : IsSteady view) (old mid : C
       let n = node_after (settings old.tables) remote x.plan.goal x.plan.epoch (node_at old (node_of kind remote)) in
       steady.beside (set_node old n) (set_plan (set_node old n) (marks x.plan kind)) refl refl ∙ steady.sets old n
 
-  does_view : (line : Line) (own : List Event) (reply : Reply) → Does old line own reply mid → Same
+  pub does_view : (line : Line) (own : List Event) (reply : Reply) → Does old line own reply mid → Same
   does_view (Submit key sdu) own reply d = unless (submit_refusal old key) own reply _ (submits (submit_fault (sender_at old key) sdu) key sdu own reply) d
   does_view (Grant port way octets) own reply d = unless (grant_refusal old port way) own reply (Granted old port way octets own reply mid) (λ g. sends g.node port way g.epoch g.answer reply g.sends) d
   does_view (Deliver ticket) own reply d = delivers (on_air old.air ticket) own reply (without ticket) (λ c. steady.beside c (without ticket c) refl refl) d
@@ -143,14 +143,17 @@ module _ {T : Type 0} (view : Chain → T) (steady : IsSteady view) where
   passes_view t (m ∷ ms) c (before, goes) = goes_view m.before c m.entry goes ∙ passes_view t ms m.before before
 
 -- the tables, and the names of nodes
-abbrev tables_of : Chain → Contents
+abbrev pub tables_of : Chain → Contents
 tables_of c = c.tables
 
 abbrev names_of : Chain → List NodeName
 names_of c = map node_name c.nodes
 
+pub tables_steady : IsSteady tables_of
+tables_steady = record { beside = λ c d tables nodes. tables; sets = λ c n. refl; named = λ c nodes same. refl }
+
 pub tables_stay : (t : Contents) (ms : List Moment) (c : Chain) → Passes t ms c → c.tables ≡ t
-tables_stay = passes_view tables_of (record { beside = λ c d tables nodes. tables; sets = λ c n. refl; named = λ c nodes same. refl })
+tables_stay = passes_view tables_of tables_steady
 
 names_stay : (t : Contents) (ms : List Moment) (c : Chain) → Passes t ms c → map node_name c.nodes ≡ map node_name (opened t).nodes
 names_stay = passes_view names_of (record { beside = λ c d tables nodes. ap (map node_name) nodes; sets = λ c n. names_set n c.nodes; named = λ c nodes same. same })

@@ -40,7 +40,7 @@ use Rattle.node_model.proofs.Finding.{find_map, find_none, each_map, each_replac
 use Rattle.chain_law.specs.Foundations.{RlcLaws}
 use Rattle.chain_law.proofs.Stands.{entity_changes, sizes_stay, View, Limits, Stands, sides_of, shown, put, put_here, put_other, put_alike, stands_same}
 use Rattle.chain_law.proofs.Pairs.{Pairwise}
-use Rattle.chain_law.proofs.Nodes.{NodeFits, SideFits, ParcelFits, OutgoingFits, port_of, Differ, side_name}
+use Rattle.chain_law.proofs.Nodes.{NodeFits, SideFits, ParcelFits, OutgoingFits, port_of, Differ, IsOwned, side_name}
 use Rattle.chain_law.proofs.Mixing.{stands_higher, mixed, mixed_before, mixed_other, mixed_this, all_mixed}
 use Rattle.chain_law.proofs.Chains.{Holds, view, view_in, node_fits, node_name, put_own, set_stands}
 use Rattle.chain_law.proofs.Lines.{plan_was}
@@ -260,6 +260,7 @@ applied_fits t remote goal epoch n fits = record {
   ports = each_map SideFits SideFits (side_after (settings t) remote goal epoch) side n.ports fits.ports;
   outgoing = each_map OutgoingFits OutgoingFits (outgoing_after remote) sender n.outgoing fits.outgoing;
   apart = subst (Pairwise Differ) (sym (names n.ports)) fits.apart;
+  owned = subst (AllByRecursion (IsOwned n.name)) (sym (names n.ports)) fits.owned;
 }
   where
     names : (ports : List PortSide) → map port_of (map (side_after (settings t) remote goal epoch) ports) ≡ map port_of ports
@@ -353,7 +354,7 @@ closed_holds remote c h = record {
   limit = h.limit;
   stands = stands_same _ (λ side name. ap (option_map shown) (same (owner side name) name)) h.stands;
   fresh = h.fresh;
-  nodes = each_map NodeFits NodeFits (node_closed remote) (λ n fits. record { ports = fits.ports; outgoing = fits.outgoing; apart = fits.apart }) c.nodes h.nodes;
+  nodes = each_map NodeFits NodeFits (node_closed remote) (λ n fits. record { ports = fits.ports; outgoing = fits.outgoing; apart = fits.apart; owned = fits.owned }) c.nodes h.nodes;
   tickets = h.tickets;
 }
   where

@@ -16,13 +16,13 @@ use Rattle.node_model.proofs.Finding.{each_append, each_left, each_right, each_r
 use Rattle.chain_law.proofs.Pairs.{Pairwise, each_picked}
 use Rattle.chain_law.specs.Foundations.{RlcLaws}
 use Rattle.chain_law.proofs.Stands.{Stands, put}
-use Rattle.chain_law.proofs.Nodes.{NodeFits, SideFits, ParcelFits, port_of, Differ, side_fits}
+use Rattle.chain_law.proofs.Nodes.{NodeFits, SideFits, ParcelFits, port_of, Differ, IsOwned, side_fits}
 use Rattle.chain_law.proofs.Chains.{Holds, view, view_in, node_fits, node_name, put_own, set_stands}
 use Rattle.chain_law.proofs.Mixing.{mixed, mixed_before, mixed_other, mixed_this, all_mixed}
 use Rattle.chain_law.proofs.Bursting.{folded_holds, StandsWith, alike, emitted, Burst, Ingesting, joined, names_stay, found_behind, none_behind, ingress_works, with_one, one_is}
 
 -- sides with names apart are each the one that is found under its name
-all_found : (ports : List PortSide) → Pairwise Differ (map port_of ports) → AllByRecursion (λ (s : PortSide). find (λ (x : PortSide). is_port s.name x.name) ports ≡ Some s) ports
+pub all_found : (ports : List PortSide) → Pairwise Differ (map port_of ports) → AllByRecursion (λ (s : PortSide). find (λ (x : PortSide). is_port s.name x.name) ports ≡ Some s) ports
 all_found [] apart = tt
 all_found (s ∷ ss) apart = (cond-true (is_port s.name s.name) (Some s) _ (port_refl s.name), behind ss apart.0 (all_found ss apart.1))
   where
@@ -157,6 +157,7 @@ bursts_hold l old events reply new h b = subst Holds (sym b.is) (forgotten (fold
             ports = sides_fit b.ingresses b.egresses ended b.emit;
             outgoing = fits.outgoing;
             apart = subst (Pairwise Differ) (sym (names_stay l old h cap put_all n.ports b.egresses zipped)) fits.apart;
+            owned = subst (AllByRecursion (IsOwned n.name)) (sym (names_stay l old h cap put_all n.ports b.egresses zipped)) fits.owned;
           }) old.nodes h.nodes;
       tickets = h.tickets;
     }

@@ -46,7 +46,7 @@ pub record Holds (c : Chain) : Type 0 where
   pub tickets : length c.air ≤ 2305843009213693952
 
 pub no_node_fits : (x : NodeName) → NodeFits (no_node x)
-no_node_fits x = record { ports = tt; outgoing = tt; apart = tt }
+no_node_fits x = record { ports = tt; outgoing = tt; apart = tt; owned = tt }
 
 pub node_fits : (c : Chain) → Holds c → (x : NodeName) → NodeFits (node_at c x)
 node_fits c h x = go (find (λ (n : Node). is_node x n.name) c.nodes) refl

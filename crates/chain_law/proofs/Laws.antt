@@ -15,12 +15,13 @@ use Rattle.node_model.specs.State.{Node, side_at, set_side}
 use Rattle.chain_model.specs.State.{Chain, node_at, set_node}
 use Rattle.chain_law.specs.Entities.{RlcFits, IsSdu, port_settings}
 use Rattle.chain_law.specs.Foundations.{RlcLaws}
-use Rattle.chain_law.specs.Laws.{ComesUp, behind, goes_on, unfed, EntitiesAreThoseOfPorts, NumbersStayWithinTickets, HearsWhatWasGiven, ParcelsAreSdus, KeptAreBodies, OneSideChanges}
+use Rattle.chain_law.specs.Laws.{ComesUp, EntitiesAreThoseOfPorts, NumbersStayWithinTickets, HearsWhatWasGiven, ParcelsAreSdus, KeptAreBodies, OneSideChanges}
 use Rattle.node_model.proofs.Names.{cases_node}
 use Rattle.chain_law.proofs.Chains.{Holds, node_fits, node_name, node_there, node_set, node_kept}
 use Rattle.chain_law.proofs.Hearing.{leaves_well}
 use Rattle.chain_law.proofs.Nodes.{ParcelFits, side_fits, side_set, outgoing_fits}
-use Rattle.chain_law.proofs.Runs.{does_hold, step_holds, runs_hold}
+use Rattle.chain_law.proofs.Opened.{opened_holds}
+use Rattle.chain_law.proofs.Runs.{does_hold, step_holds, comes_keep}
 
 rlc_fits : (c : Chain) → Holds c → RlcFits c
 rlc_fits c h = record {
@@ -34,10 +35,8 @@ rlc_fits c h = record {
 }
 
 -- what holds of each chain that comes up
-comes_hold : (l : RlcLaws) {c : Chain} → ComesUp c → Holds c
-comes_hold l {c} (behind h stage run) = (runs_hold l h stage c run).1
-comes_hold l {c} (goes_on {old = old} line events reply up step) = step_holds l old line events reply c (comes_hold l up) step
-comes_hold l {c} (unfed {old = old} line events reply up does) = does_hold l old line events reply c (comes_hold l up) does
+pub comes_hold : (l : RlcLaws) {c : Chain} → ComesUp c → Holds c
+comes_hold l = comes_keep Holds opened_holds (step_holds l) (does_hold l)
 
 pub entities_are_those_of_ports : RlcLaws → EntitiesAreThoseOfPorts
 entities_are_those_of_ports l c up = rlc_fits c (comes_hold l up)

@@ -8,6 +8,7 @@ pub mod Hearing
 pub mod Applying
 pub mod Opened
 pub mod Pairs
+pub mod Members
 pub mod Tables
 pub mod Mixing
 pub mod Bursting

@@ -56,10 +56,14 @@ use Rattle.chain_law.proofs.Nodes.{NodeFits, SideFits, SenderFits, ParcelFits, o
 use Rattle.chain_law.proofs.Chains.{Holds, view, node_fits, node_name, node_there, put_own, set_stands, goes_set, off_holds}
 
 -- where there is a refusal nothing changes
+pub unless_keeps : (P : Chain → Type 0) (refusal : Option Reply) (old : Chain) (events : List Event) (reply : Reply) (new : Chain) (done : Type 0) → P old
+    → (refusal ≡ None → done → P new) → Unless refusal old events reply new done → P new
+unless_keeps P (Some r) old events reply new done h goes u = subst P (sym u.2) h
+unless_keeps P None old events reply new done h goes u = goes refl u
+
 pub unless_holds : (refusal : Option Reply) (old : Chain) (events : List Event) (reply : Reply) (new : Chain) (done : Type 0) → Holds old → (refusal ≡ None → done → Holds new)
     → Unless refusal old events reply new done → Holds new
-unless_holds (Some r) old events reply new done h goes u = subst Holds (sym u.2) h
-unless_holds None old events reply new done h goes u = goes refl u
+unless_holds = unless_keeps Holds
 
 -- an SDU that a sender doesn't refuse is one that PDCP can take
 no_fault : (s : Sender) (sdu : List ℕ) → submit_fault s sdu ≡ None → IsBody sdu

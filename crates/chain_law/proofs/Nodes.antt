@@ -13,7 +13,7 @@ use Rattle.link_base.specs.declared.names.Side.{Side}
 use Rattle.pdcp_pdu.specs.Pdcp.{IsBody}
 use Rattle.pdcp_model.specs.Sender.{Sender, kept_at}
 use Rattle.node_model.specs.declared.parcel.Parcel.{Parcel}
-use Rattle.node_model.specs.Names.{is_port, is_key, replaced}
+use Rattle.node_model.specs.Names.{NodeName, is_port, is_key, owner, replaced}
 use Rattle.node_model.specs.State.{PortSide, Outgoing, Incoming, Node, side_at, set_side, set_entity, outgoing, outgoing_at, no_outgoing, set_outgoing, set_incoming}
 use Rattle.chain_law.specs.Entities.{IsSdu}
 use Rattle.node_model.proofs.Names.{port_is, port_refl, port_apart}
@@ -44,11 +44,16 @@ port_of s = s.name
 abbrev pub Differ : PortName → PortName → Type 0
 Differ p q = p ≡ q → ⊥
 
--- so is what a node has, and no two of its ports have one name
+-- the node has a side of the port
+abbrev pub IsOwned : NodeName → PortName → Type 0
+IsOwned node port = (side : Side) × (owner side port ≡ node)
+
+-- so is what a node has, no two of its ports have one name, and of each the node has a side
 pub record NodeFits (n : Node) : Type 0 where
   pub ports : AllByRecursion SideFits n.ports
   pub outgoing : AllByRecursion OutgoingFits n.outgoing
   pub apart : Pairwise Differ (map port_of n.ports)
+  pub owned : AllByRecursion (IsOwned n.name) (map port_of n.ports)
 
 -- a side that is set leaves the names as they are
 names_set : (now : PortSide) (ports : List PortSide) → map port_of (replaced (λ (x : PortSide). is_port now.name x.name) now ports) ≡ map port_of ports
@@ -93,6 +98,7 @@ fits_side n s fits is = record {
   ports = each_replaced SideFits (λ (x : PortSide). is_port s.name x.name) s is n.ports fits.ports;
   outgoing = fits.outgoing;
   apart = subst (Pairwise Differ) (sym (names_set s n.ports)) fits.apart;
+  owned = subst (AllByRecursion (IsOwned n.name)) (sym (names_set s n.ports)) fits.owned;
 }
 
 pub fits_outgoing : (n : Node) (o : Outgoing) → NodeFits n → OutgoingFits o → NodeFits (set_outgoing n o)
@@ -101,10 +107,11 @@ fits_outgoing n o fits is = record {
   outgoing = each_replaced OutgoingFits
       (λ (x : Outgoing). is_key o.key x.key) o is n.outgoing fits.outgoing;
   apart = fits.apart;
+  owned = fits.owned;
 }
 
 pub fits_incoming : (n : Node) (i : Incoming) → NodeFits n → NodeFits (set_incoming n i)
-fits_incoming n i fits = record { ports = fits.ports; outgoing = fits.outgoing; apart = fits.apart }
+fits_incoming n i fits = record { ports = fits.ports; outgoing = fits.outgoing; apart = fits.apart; owned = fits.owned }
 
 -- a side's SDUs stay with another entity
 pub called_fits : (n : Node) (port : PortName) (side : PortSide) (entity : Option Entity) → NodeFits n → side_at n port ≡ Some side → SideFits (record side { entity = entity })

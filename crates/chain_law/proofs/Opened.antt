@@ -11,6 +11,7 @@ use Rattle.link_base.specs.declared.names.PortName.{PortName}
 use Rattle.link_base.specs.declared.names.PortName.TheVariants.{Direct, Pc5, Uu}
 use Rattle.link_base.specs.declared.names.Remote.{Remote}
 use Rattle.link_base.specs.declared.names.Side.{Side}
+use Rattle.link_base.specs.declared.names.Side.TheVariants.{Low, High}
 use Rattle.link_base.specs.declared.names.SnSize.{SnSize}
 use Rattle.link_base.specs.declared.names.SnSize.TheVariants.{S12}
 use Rattle.link_base.specs.declared.names.Way.{Way}
@@ -26,7 +27,7 @@ use Rattle.rlc_model.specs.Hop.{on_air}
 use Rattle.rlc_model.specs.Sides.{Entity}
 use Rattle.rlc_law.specs.Ports.{Port, Ports, start_port, ReachesPort, hop_of, IsSide}
 use Rattle.rlc_law.specs.Sides.{HasSize, start_entity}
-use Rattle.node_model.specs.Names.{NodeName, is_node, is_port, is_remote, is_of, owner}
+use Rattle.node_model.specs.Names.{NodeName, AtRemote, AtRelay, AtGnb, is_node, is_port, is_remote, is_of, owner}
 use Rattle.node_model.specs.State.{PortSide, Node, side_at, entity_of, no_node}
 use Rattle.node_model.specs.Tables.{settings, is_open_on}
 use Rattle.node_model.specs.Opening.{new_entity, new_side, direct_side, pc5_side, uu_side, bearers_of, pc5s_of, new_outgoing, new_remote, new_relay, new_gnb}
@@ -34,11 +35,11 @@ use Rattle.chain_model.specs.declared.plan.Plan.{Plan}
 use Rattle.chain_model.specs.State.{first_plan, opened}
 use Rattle.chain_model.specs.Sizes.{direct_size, pc5_size, uu_size, port_size}
 use Rattle.chain_law.specs.Entities.{port_settings, next_epoch}
-use Rattle.node_model.proofs.Names.{port_is}
+use Rattle.node_model.proofs.Names.{port_is, remote_is}
 use Rattle.node_model.proofs.Finding.{find_passes, find_append, find_flat, find_map, find_picked, each_found, each_append, each_made, each_map, each_flat}
 use Rattle.chain_law.proofs.Stands.{Stands, sides_of}
-use Rattle.chain_law.proofs.Nodes.{NodeFits, SideFits, OutgoingFits, port_of, Differ}
-use Rattle.chain_law.proofs.Pairs.{Pairwise, pairs_append, pairs_picked, pairs_map, pairs_flat, ascending_pairs, each_passes, each_to_each}
+use Rattle.chain_law.proofs.Nodes.{NodeFits, SideFits, OutgoingFits, port_of, Differ, IsOwned}
+use Rattle.chain_law.proofs.Pairs.{Pairwise, pairs_append, pairs_picked, pairs_map, pairs_flat, ascending_pairs, each_passes, each_then, each_to_each}
 use Rattle.chain_law.proofs.Tables.{TablesApart}
 use Rattle.chain_law.proofs.Chains.{Holds, view}
 use Rattle.chain_law.proofs.Applying.{start_is, one_remote}
@@ -79,6 +80,16 @@ HasKind k s = ◌≡◌ {A = ℕ} (kind_in s.name) k
 -- two sides are of ports with names apart
 abbrev SidesDiffer : PortSide → PortSide → Type 0
 SidesDiffer x y = Differ x.name y.name
+
+-- the node has a side of the port
+abbrev SideIsOwned : NodeName → PortSide → Type 0
+SideIsOwned node s = IsOwned node s.name
+
+-- a remote has a side of each of its own ports
+at_remote : (remote : Remote) (name : PortName) → is_of remote name ≡ true → IsOwned (AtRemote remote) name
+at_remote remote (Direct r d) of = (Low, ap AtRemote (sym (remote_is remote r of)))
+at_remote remote (Pc5 r c) of = (Low, ap AtRemote (sym (remote_is remote r of)))
+at_remote remote (Uu c) of = absurd (false≢true of)
 
 module _ (t : Contents) where
   -- sides that were made of rows are, where the first row of a port's name gives the port's size
@@ -221,6 +232,11 @@ module _ (t : Contents) where
     names_apart : (sides : List PortSide) → Pairwise SidesDiffer sides → Pairwise Differ (map port_of sides)
     names_apart = pairs_map Differ SidesDiffer port_of (λ x y ne. ne)
 
+    -- each is at a node that has it
+    owned_both : (x : NodeName) (xs ys : List PortSide) → AllByRecursion (SideIsOwned x) xs → AllByRecursion (SideIsOwned x) ys
+        → AllByRecursion (IsOwned x) (map port_of (xs ++ ys))
+    owned_both x xs ys first second = each_map (IsOwned x) (SideIsOwned x) port_of (λ s its. its) (xs ++ ys) (each_append (SideIsOwned x) xs ys first second)
+
     nodes_fit : AllByRecursion NodeFits (opened t).nodes
     nodes_fit = each_append NodeFits (map (new_remote t) t.remotes) (new_relay t ∷ new_gnb t ∷ [])
         (each_made NodeFits (new_remote t) (λ row. record {
@@ -229,6 +245,9 @@ module _ (t : Contents) where
           apart = names_apart (new_remote t row).ports
               (pairs_append SidesDiffer _ _ (directs_apart row.goal row.remote) (pc5s_apart row.goal row.remote)
               (kinds_apart 0 1 (λ e. absurd (omega (arith, e))) _ _ (directs_kind row) (pc5s_kind row)));
+          owned = owned_both (AtRemote row.remote) _ _
+              (each_then (λ (s : PortSide). is_of row.remote s.name ≡ true) (SideIsOwned (AtRemote row.remote)) (λ s its. at_remote row.remote s.name its) _ (directs_own row))
+              (each_then (λ (s : PortSide). is_of row.remote s.name ≡ true) (SideIsOwned (AtRemote row.remote)) (λ s its. at_remote row.remote s.name its) _ (pc5s_own row));
         }) t.remotes) (
           record {
             ports = fits_both _ _ (each_flat SideFits _ pc5s_fit t.remotes) uus_fit;
@@ -237,6 +256,9 @@ module _ (t : Contents) where
                 (pairs_append SidesDiffer _ _ (remotes_apart (λ (row : RemoteRow). map (pc5_side (settings t) row.goal) (pc5s_of t row.remote))
                 (λ row. pc5s_apart row.goal row.remote) pc5s_own) uus_apart
                 (kinds_apart 1 2 (λ e. absurd (omega (arith, e))) _ _ (each_flat (HasKind 1) _ pc5s_kind t.remotes) uus_kind));
+            owned = owned_both AtRelay _ _
+                (each_flat (SideIsOwned AtRelay) _ (λ row. each_made (SideIsOwned AtRelay) (pc5_side (settings t) row.goal) (λ r. (High, refl)) (pc5s_of t row.remote)) t.remotes)
+                (each_made (SideIsOwned AtRelay) (uu_side (settings t)) (λ r. (Low, refl)) t.uus);
           },
           (
             record {
@@ -246,6 +268,9 @@ module _ (t : Contents) where
                   (pairs_append SidesDiffer _ _ (remotes_apart (λ (row : RemoteRow). map (direct_side (settings t) row.goal) (bearers_of t row.remote))
                   (λ row. directs_apart row.goal row.remote) directs_own) uus_apart
                   (kinds_apart 0 2 (λ e. absurd (omega (arith, e))) _ _ (each_flat (HasKind 0) _ directs_kind t.remotes) uus_kind));
+              owned = owned_both AtGnb _ _
+                  (each_flat (SideIsOwned AtGnb) _ (λ row. each_made (SideIsOwned AtGnb) (direct_side (settings t) row.goal) (λ r. (High, refl)) (bearers_of t row.remote)) t.remotes)
+                  (each_made (SideIsOwned AtGnb) (uu_side (settings t)) (λ r. (High, refl)) t.uus);
             },
             tt,
           ),

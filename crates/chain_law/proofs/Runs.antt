@@ -1,6 +1,6 @@
 -- Each line of a run keeps what holds of a chain.
 use Rattle.std.proofs.Common.{List, [], ◌∷◌, Option, Some, None, sym, subst}
-use Rattle.bearer_map.specs.Contents.{nothing}
+use Rattle.bearer_map.specs.Contents.{Contents, nothing}
 use Rattle.rlc_model.specs.Hop.{on_air}
 use Rattle.script_text.specs.declared.event.Event.{Event}
 use Rattle.script_text.specs.declared.line.Line.{Line}
@@ -14,15 +14,15 @@ use Rattle.script_text.specs.Lines.{part_of}
 use Rattle.chain_model.specs.Draining.{Moment, IsRun, drain_refusal}
 use Rattle.chain_model.specs.Lines.{submit_refusal, grant_refusal, without, stage_refusal, expire_refusal, report_refusal, plan_refusal, apply_refusal}
 use Rattle.chain_model.specs.Runs.{Turn, LeadsTo, Behaves, DrainsUnless, Turns, contents}
-use Rattle.chain_model.specs.State.{Chain}
+use Rattle.chain_model.specs.State.{Chain, opened}
 use Rattle.chain_model.specs.Steps.{Does, Step}
 use Rattle.chain_law.proofs.Applying.{applies_hold}
 use Rattle.chain_law.proofs.Bursts.{bursts_hold}
 use Rattle.chain_law.proofs.Chains.{Holds, feeds_hold, off_holds}
 use Rattle.chain_law.proofs.Hearing.{delivers_hold}
 use Rattle.chain_law.specs.Foundations.{RlcLaws}
+use Rattle.chain_law.specs.Laws.{ComesUp, behind, goes_on, unfed}
 use Rattle.chain_law.proofs.Lines.{unless_holds, submits_hold, granted_holds, loses_hold, stages_hold, expires_hold, pushes_hold, pulls_hold, wants_hold, plans_hold}
-use Rattle.chain_law.proofs.Opened.{opened_holds}
 use Rattle.chain_law.proofs.Tables.{TablesApart, nothing_apart, stage_apart}
 
 module _ (l : RlcLaws) where
@@ -52,31 +52,39 @@ module _ (l : RlcLaws) where
   pub step_holds : (old : Chain) (line : Line) (events : List Event) (reply : Reply) (new : Chain) → Holds old → Step old line events reply new → Holds new
   step_holds old line events reply new h s = subst Holds (sym s.is) (feeds_hold l s.mid s.given s.nodes (does_hold old line s.own reply s.mid h s.does) s.feeds)
 
-  -- the lines of a drain
-  run_holds : (first : Chain) (moments : List Moment) (last : Chain) → Holds first → IsRun first moments last → Holds last
-  run_holds first [] last h r = subst Holds (sym r) h
-  run_holds first (m ∷ ms) last h r = step_holds m.before m.entry.line m.entry.events m.entry.reply last (run_holds first ms m.before h r.0) r.1
+-- what holds of each chain that tables open, and behind each step of a chain of which it holds
+module _ (P : Chain → Type 0) (opens : (t : Contents) → TablesApart t → P (opened t))
+    (steps : (old : Chain) (line : Line) (events : List Event) (reply : Reply) (new : Chain) → P old → Step old line events reply new → P new) where
+  -- holds behind the lines of a drain
+  run_keeps : (first : Chain) (moments : List Moment) (last : Chain) → P first → IsRun first moments last → P last
+  run_keeps first [] last h r = subst P (sym r) h
+  run_keeps first (m ∷ ms) last h r = steps m.before m.entry.line m.entry.events m.entry.reply last (run_keeps first ms m.before h r.0) r.1
 
-  drains_hold : (refusal : Option Reply) (old : Chain) (inner : List Entry) (reply : Reply) (new : Chain) → Holds old → DrainsUnless refusal old inner reply new → Holds new
-  drains_hold (Some r) old inner reply new h d = subst Holds (sym d.2) h
-  drains_hold None old inner reply new h d = run_holds old d.moments new h d.is_drain.run
+  drains_keep : (refusal : Option Reply) (old : Chain) (inner : List Entry) (reply : Reply) (new : Chain) → P old → DrainsUnless refusal old inner reply new → P new
+  drains_keep (Some r) old inner reply new h d = subst P (sym d.2) h
+  drains_keep None old inner reply new h d = run_keeps old d.moments new h d.is_drain.run
 
-  pub behaves_hold : (old : Chain) (inner : List Entry) (line : Line) (events : List Event) (reply : Reply) (new : Chain) → Holds old → Behaves old inner line events reply new
-      → Holds new
-  behaves_hold old inner Drain events reply new h b = drains_hold (drain_refusal old) old inner reply new h b.1
-  behaves_hold old inner End events reply new h b = subst Holds (sym b.3) h
-  behaves_hold old inner line events reply new h b = step_holds old line events reply new h b.1
+  behaves_keep : (old : Chain) (inner : List Entry) (line : Line) (events : List Event) (reply : Reply) (new : Chain) → P old → Behaves old inner line events reply new → P new
+  behaves_keep old inner Drain events reply new h b = drains_keep (drain_refusal old) old inner reply new h b.1
+  behaves_keep old inner End events reply new h b = subst P (sym b.3) h
+  behaves_keep old inner line events reply new h b = steps old line events reply new h b.1
 
-  turns_hold : (part : Part) (stage : ScriptStage) (old : Chain) (t : Turn) (new : Chain) → TablesApart (contents stage) → Holds old → Turns part stage old t new → Holds new
-  turns_hold Running stage old t new apart h x = behaves_hold old t.inner t.entry.line t.entry.events t.entry.reply new h x
-  turns_hold AtStart stage old t new apart h x = subst Holds (sym x.3) (opened_holds (contents stage) apart)
-  turns_hold Tables stage old t new apart h x = subst Holds (sym x.3) (opened_holds (contents stage) apart)
-  turns_hold Ended stage old t new apart h x = subst Holds (sym x.3) (opened_holds (contents stage) apart)
+  turns_keep : (part : Part) (stage : ScriptStage) (old : Chain) (t : Turn) (new : Chain) → TablesApart (contents stage) → P old → Turns part stage old t new → P new
+  turns_keep Running stage old t new apart h x = behaves_keep old t.inner t.entry.line t.entry.events t.entry.reply new h x
+  turns_keep AtStart stage old t new apart h x = subst P (sym x.3) (opens (contents stage) apart)
+  turns_keep Tables stage old t new apart h x = subst P (sym x.3) (opens (contents stage) apart)
+  turns_keep Ended stage old t new apart h x = subst P (sym x.3) (opens (contents stage) apart)
 
   -- behind each run, with the tables that its lines declared
-  pub runs_hold : (h : List Turn) (stage : ScriptStage) (c : Chain) → LeadsTo h stage c → TablesApart (contents stage) × Holds c
-  runs_hold [] stage c is = (subst (λ (s : ScriptStage). TablesApart (contents s)) (sym is.0) nothing_apart, subst Holds (sym is.1) (opened_holds nothing nothing_apart))
-  runs_hold (t ∷ h) stage c is =
-      let before = runs_hold h is.0 is.1 is.2 in
+  pub runs_keep : (h : List Turn) (stage : ScriptStage) (c : Chain) → LeadsTo h stage c → TablesApart (contents stage) × P c
+  runs_keep [] stage c is = (subst (λ (s : ScriptStage). TablesApart (contents s)) (sym is.0) nothing_apart, subst P (sym is.1) (opens nothing nothing_apart))
+  runs_keep (t ∷ h) stage c is =
+      let before = runs_keep h is.0 is.1 is.2 in
       let apart = stage_apart is.0 t.entry.line stage before.0 is.3.enters in
-      (apart, turns_hold (part_of t.entry.line) stage is.1 t c apart before.1 is.4)
+      (apart, turns_keep (part_of t.entry.line) stage is.1 t c apart before.1 is.4)
+
+  -- and of each chain that comes up, where it holds before the nodes feed too
+  pub comes_keep : ((old : Chain) (line : Line) (events : List Event) (reply : Reply) (new : Chain) → P old → Does old line events reply new → P new) → {c : Chain} → ComesUp c → P c
+  comes_keep does {c} (behind h stage run) = (runs_keep h stage c run).1
+  comes_keep does {c} (goes_on {old = old} line events reply up step) = steps old line events reply c (comes_keep does up) step
+  comes_keep does {c} (unfed {old = old} line events reply up d) = does old line events reply c (comes_keep does up) d

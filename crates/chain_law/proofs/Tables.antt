@@ -1,12 +1,12 @@
 -- The rows of tables have names apart, and so have the ports of each node.
-use Rattle.std.proofs.Common.{◌≡◌, ℕ, Bool, true, false, cond, not, nat_le, ◌&&◌, ◌||◌, Option, Some, None, Result, Ok, Err, is_some, refl, sym, ◌∙◌, ap, subst, List, map}
+use Rattle.std.proofs.Common.{◌≡◌, ◌⊎◌, inl, inr, ℕ, Bool, true, false, cond, eqb, not, nat_le, ◌&&◌, ◌||◌, Option, Some, None, Result, Ok, Err, is_some, refl, sym, ◌∙◌, ap, subst, List, map}
 use Rattle.std.specs.List.{AllByRecursion}
-use Rattle.std.specs.List.{AllByRecursion}
-use Rattle.std.proofs.lemmas.Bool.{true≢false}
+use Rattle.std.proofs.lemmas.Bool.{cases_Bool, eqb-true, eq-eqb, or_parts, true≢false}
 use Rattle.std.proofs.lemmas.Option.{none-some, same_Some}
 use Rattle.link_base.specs.declared.names.Goal.{Goal}
-use Rattle.link_base.specs.declared.names.Goal.TheVariants.{Direct}
+use Rattle.link_base.specs.declared.names.Goal.TheVariants.{Direct, Relay}
 use Rattle.link_base.specs.declared.names.Key.{Key}
+use Rattle.link_base.specs.declared.names.LocalId.{LocalId}
 use Rattle.link_base.specs.declared.names.Remote.{Remote}
 use Rattle.link_base.specs.declared.names.Way.{Way}
 use Rattle.link_base.specs.declared.names.Way.TheVariants.{Ul, Dl}
@@ -14,7 +14,7 @@ use Rattle.bearer_map.specs.declared.rows.BearerRow.{BearerRow}
 use Rattle.bearer_map.specs.declared.rows.RemoteRow.{RemoteRow}
 use Rattle.bearer_map.specs.declared.rows.TableFault.{TableFault}
 use Rattle.bearer_map.specs.Contents.{Contents, nothing, pair, name_rank, key_rank, remote_rank, bearer_rank, uu_rank, pc5_rank, map_rank, bearers_of}
-use Rattle.bearer_map.specs.Lines.{is_remote, is_drb, is_chan, is_size, sn_size_of, named_key, is_taken, goes_to, begins_at, with_first}
+use Rattle.bearer_map.specs.Lines.{is_remote, is_drb, is_chan, is_size, sn_size_of, named_key, goes_by, is_taken, goes_to, begins_at, begins_direct, with_first}
 use Rattle.bearer_map.specs.Settings.{is_setting, choice_of}
 use Rattle.bearer_map.specs.Order.{has_row, in_order, IsAscending}
 use Rattle.script_text.specs.declared.line.Line.{Line}
@@ -23,22 +23,29 @@ use Rattle.script_text.specs.declared.stage.ScriptStage.{ScriptStage}
 use Rattle.script_text.specs.Stages.{sn_bits, table_line, tables_after, kept, entered, after}
 use Rattle.chain_model.specs.Runs.{contents}
 use Rattle.node_model.proofs.Finding.{each_map}
+use Rattle.chain_law.proofs.Members.{IsIn, in_made, in_more, none_passes}
 use Rattle.chain_law.proofs.Pairs.{order_keeps, map_keeps, each_then, each_in_order, row_stays, row_mapped}
 
 -- the remote of a bearer's row has a row
 abbrev pub IsDeclared : List RemoteRow → BearerRow → Type 0
 IsDeclared remotes row = has_row remote_rank remotes row.remote.0 ≡ true
 
--- no two rows of a table have one name, and each bearer's remote is declared
+-- no two remotes begin on the relay with one local identity
+abbrev pub PathsApart : List RemoteRow → Type 0
+PathsApart rows = (a b : RemoteRow) (id : LocalId) → IsIn rows a → IsIn rows b → a.goal ≡ Relay id → b.goal ≡ Relay id → a.remote ≡ b.remote
+
+-- no two rows of a table have one name, each bearer's remote is declared, and the paths at the start share no identity
 pub record TablesApart (t : Contents) : Type 0 where
   pub remotes : IsAscending remote_rank t.remotes
   pub bearers : IsAscending bearer_rank t.bearers
   pub pc5s : IsAscending pc5_rank t.pc5s
   pub uus : IsAscending uu_rank t.uus
+  pub maps : IsAscending map_rank t.maps
   pub declared : AllByRecursion (IsDeclared t.remotes) t.bearers
+  pub paths : PathsApart t.remotes
 
 pub nothing_apart : TablesApart nothing
-nothing_apart = record { remotes = tt; bearers = tt; pc5s = tt; uus = tt; declared = tt }
+nothing_apart = record { remotes = tt; bearers = tt; pc5s = tt; uus = tt; maps = tt; declared = tt; paths = λ a b id p q is its. absurd p }
 
 -- what is behind a refusal that doesn't hold
 abbrev value : {X F : Type 0} → Result X F → Option X
@@ -90,12 +97,58 @@ path_rank remote goal row = by (Rattle.std.specs.Prelude.nat_eq row.remote.0 rem
     by true = refl
     by false = refl
 
+-- one more remote begins on its direct path
+paths_with : (r : Remote) (rows : List RemoteRow) → PathsApart rows → PathsApart (in_order remote_rank (record { remote = r; goal = Direct }) rows)
+paths_with r rows apart a b id p q is its = elim (in_more remote_rank (record { remote = r; goal = Direct }) rows a p) [
+  | inl new ↦ absurd (direct_only new is)
+  | inr old ↦ elim (in_more remote_rank (record { remote = r; goal = Direct }) rows b q) [
+    | inl new ↦ absurd (direct_only new its)
+    | inr other ↦ apart a b id old other is its
+  ]
+]
+  where
+    direct_only : {x : RemoteRow} → record { remote = r; goal = Direct } ≡ x → x.goal ≡ Relay id → ⊥
+    direct_only new is = true≢false (ap begins_direct (ap (λ (row : RemoteRow). row.goal) new ∙ is))
+
+-- a remote is to begin on a path whose identity is not taken
+paths_switched : (r : Remote) (goal : Goal) (rows : List RemoteRow) → is_taken goal rows ≡ false → PathsApart rows → PathsApart (map (goes_to r goal) rows)
+paths_switched r goal rows free apart a b id p q is its =
+    let x = in_made (goes_to r goal) rows a p in
+    let y = in_made (goes_to r goal) rows b q in
+    ap (λ (row : RemoteRow). row.remote) (sym x.2) ∙ same_remote x.0 ∙ by x.0 y.0 x.1 y.1 (ap (λ (row : RemoteRow). row.goal) x.2 ∙ is)
+    (ap (λ (row : RemoteRow). row.goal) y.2 ∙ its) (cases_Bool (eqb x.0.remote.0 r.0)) (cases_Bool (eqb y.0.remote.0 r.0)) ∙ sym (same_remote y.0) ∙ ap (λ (row : RemoteRow). row.remote) y.2
+  where
+    same_remote : (x : RemoteRow) → (goes_to r goal x).remote ≡ x.remote
+    same_remote x = either (eqb x.remote.0 r.0)
+      where
+        either : (b : Bool) → (cond b (record x { goal = goal }) x).remote ≡ x.remote
+        either true = refl
+        either false = refl
+
+    -- its own path, or that which is set
+    set_goal : (x : RemoteRow) → eqb x.remote.0 r.0 ≡ true → (goes_to r goal x).goal ≡ Relay id → goal ≡ Relay id
+    set_goal x same is = sym (ap (λ (b : Bool). (cond b (record x { goal = goal }) x).goal) same) ∙ is
+
+    own_goal : (x : RemoteRow) → eqb x.remote.0 r.0 ≡ false → (goes_to r goal x).goal ≡ Relay id → x.goal ≡ Relay id
+    own_goal x other is = sym (ap (λ (b : Bool). (cond b (record x { goal = goal }) x).goal) other) ∙ is
+
+    not_both : (x : RemoteRow) → IsIn rows x → goal ≡ Relay id → x.goal ≡ Relay id → ⊥
+    not_both x i set own = true≢false (sym (ap (goes_by id.0) own ∙ eq-eqb id.0 id.0 refl)
+        ∙ none_passes (λ (row : RemoteRow). goes_by id.0 row.goal) rows x (ap (λ (g : Goal). is_taken g rows) (sym set) ∙ free) i)
+
+    by : (x y : RemoteRow) → IsIn rows x → IsIn rows y → (goes_to r goal x).goal ≡ Relay id → (goes_to r goal y).goal ≡ Relay id
+        → (eqb x.remote.0 r.0 ≡ true) ⊎ (eqb x.remote.0 r.0 ≡ false) → (eqb y.remote.0 r.0 ≡ true) ⊎ (eqb y.remote.0 r.0 ≡ false) → x.remote ≡ y.remote
+    by x y i j is its (inl same) (inl other) = ap (λ (n : ℕ). let q : Remote = record { 0 = n } in q) (eqb-true x.remote.0 r.0 same ∙ sym (eqb-true y.remote.0 r.0 other))
+    by x y i j is its (inl same) (inr other) = absurd (not_both y j (set_goal x same is) (own_goal y other its))
+    by x y i j is its (inr other) (inl same) = absurd (not_both x i (set_goal y same its) (own_goal x other is))
+    by x y i j is its (inr same) (inr other) = apart x y id i j (own_goal x same is) (own_goal y other its)
+
 -- each line leaves tables whose rows have names apart
 line_apart : (t : Contents) (line : Line) (new : Contents) → TablesApart t → table_line t line ≡ Ok new → TablesApart new
 line_apart t (Set name setting) new a e =
     let p = past (not (is_setting name setting)) _ _ new e in
     let q = past (is_some (choice_of name t.choices)) _ _ new p.1 in
-    subst TablesApart (same_ok _ new q.1) (record { remotes = a.remotes; bearers = a.bearers; pc5s = a.pc5s; uus = a.uus; declared = a.declared })
+    subst TablesApart (same_ok _ new q.1) (record { remotes = a.remotes; bearers = a.bearers; pc5s = a.pc5s; uus = a.uus; maps = a.maps; declared = a.declared; paths = a.paths })
 line_apart t (RemoteLine r) new a e =
     let p = past _ _ _ new e in let q = past _ _ _ new p.1 in let s = past _ _ _ new q.1 in
     subst TablesApart (same_ok _ new s.1)
@@ -105,9 +158,11 @@ line_apart t (RemoteLine r) new a e =
       bearers = a.bearers;
       pc5s = a.pc5s;
       uus = a.uus;
+      maps = a.maps;
       declared = each_then (IsDeclared t.remotes)
           (IsDeclared (in_order remote_rank (record { remote = r; goal = Direct }) t.remotes))
           (λ row. row_stays remote_rank (record { remote = r; goal = Direct }) t.remotes row.remote.0) t.bearers a.declared;
+      paths = paths_with r t.remotes a.paths;
     })
 line_apart t (Bearer r d pdcp direct) new a e =
     let p = past (not (is_remote r.0 && is_drb d.0 && is_size (sn_bits pdcp) && is_size (sn_bits direct))) _ _ new e in
@@ -129,22 +184,24 @@ line_apart t (Bearer r d pdcp direct) new a e =
           }) t.bearers q.0 a.bearers;
       pc5s = a.pc5s;
       uus = a.uus;
+      maps = a.maps;
       declared = each_in_order bearer_rank (IsDeclared t.remotes)
           (record { remote = r; drb = d; pdcp = sn_size_of (sn_bits pdcp); direct = sn_size_of (sn_bits direct); first_ul = 0; first_dl = 0 })
           (not_not (has_row remote_rank t.remotes r.0) s.0) t.bearers a.declared;
+      paths = a.paths;
     })
 line_apart t (Uu c size) new a e =
     let p = past _ _ _ new e in let q = past _ _ _ new p.1 in
-    subst TablesApart (same_ok _ new q.1) (record { remotes = a.remotes; bearers = a.bearers; pc5s = a.pc5s; uus = order_keeps uu_rank _ t.uus q.0 a.uus; declared = a.declared })
+    subst TablesApart (same_ok _ new q.1) (record { remotes = a.remotes; bearers = a.bearers; pc5s = a.pc5s; uus = order_keeps uu_rank _ t.uus q.0 a.uus; maps = a.maps; declared = a.declared; paths = a.paths })
 line_apart t (Pc5 r c size) new a e =
     let p = past _ _ _ new e in let q = past _ _ _ new p.1 in let s = past _ _ _ new q.1 in
-    subst TablesApart (same_ok _ new s.1) (record { remotes = a.remotes; bearers = a.bearers; pc5s = order_keeps pc5_rank _ t.pc5s q.0 a.pc5s; uus = a.uus; declared = a.declared })
+    subst TablesApart (same_ok _ new s.1) (record { remotes = a.remotes; bearers = a.bearers; pc5s = order_keeps pc5_rank _ t.pc5s q.0 a.pc5s; uus = a.uus; maps = a.maps; declared = a.declared; paths = a.paths })
 line_apart t (Map r d pc5 uu) new a e =
     let p = past (not (is_remote r.0 && is_drb d.0 && is_chan pc5.0 && is_chan uu.0)) _ _ new e in
     let q = past (has_row map_rank t.maps (pair r.0 d.0)) _ _ new p.1 in
     let s = past (not (has_row remote_rank t.remotes r.0 && has_row bearer_rank t.bearers (pair r.0 d.0) && has_row pc5_rank t.pc5s
     (pair r.0 pc5.0) && has_row uu_rank t.uus uu.0)) _ _ new q.1 in
-    subst TablesApart (same_ok _ new s.1) (record { remotes = a.remotes; bearers = a.bearers; pc5s = a.pc5s; uus = a.uus; declared = a.declared })
+    subst TablesApart (same_ok _ new s.1) (record { remotes = a.remotes; bearers = a.bearers; pc5s = a.pc5s; uus = a.uus; maps = order_keeps map_rank _ t.maps q.0 a.maps; declared = a.declared; paths = a.paths })
 line_apart t (Start key first) new a e =
     let p = past (not (is_remote key.remote.0 && is_drb key.drb.0 && nat_le first 4294967294)) _ _ new e in
     let q = past (has_row key_rank t.starts (key_rank (named_key key.remote.0 key.drb.0 key.way))) _ _ new p.1 in
@@ -156,6 +213,8 @@ line_apart t (Start key first) new a e =
           (first_rank (named_key key.remote.0 key.drb.0 key.way) first) t.bearers a.bearers;
       pc5s = a.pc5s;
       uus = a.uus;
+      maps = a.maps;
+      paths = a.paths;
       declared = each_map (IsDeclared t.remotes)
           (IsDeclared t.remotes) (begins_at (named_key key.remote.0 key.drb.0 key.way) first)
           (λ row. first_declared (named_key key.remote.0 key.drb.0 key.way) first t.remotes row) t.bearers a.declared;
@@ -170,6 +229,8 @@ line_apart t (Path r goal) new a e =
       bearers = a.bearers;
       pc5s = a.pc5s;
       uus = a.uus;
+      maps = a.maps;
+      paths = paths_switched r goal t.remotes (or_parts (has_row name_rank t.paths r.0) (is_taken goal t.remotes) q.0).1 a.paths;
       declared = each_then
           (IsDeclared t.remotes) (IsDeclared (map (goes_to r goal) t.remotes))
           (λ row is. row_mapped remote_rank (goes_to r goal) (path_rank r goal) t.remotes row.remote.0 ∙ is) t.bearers a.declared;

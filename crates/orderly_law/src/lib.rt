@@ -1,0 +1,9 @@
+//! The laws of what each run keeps in order: the sides of ports that nodes have.
+//!
+//! A law has no code. It is the contract of a function that does nothing, over the definitions of chain_model; specs/ has its
+//! statement. What a body calls are the laws on which its own law stands.
+#![tactic(auto)]
+
+mod laws;
+
+pub use laws::sides_are_found;
