@@ -1,5 +1,5 @@
 // What each run keeps in order.
-ghost use Rattle.orderly_law.specs.Laws.{SidesAreFound};
+ghost use Rattle.orderly_law.specs.Laws.{SidesAreFound, RunsKeepChainsOrderly};
 
 use chain_law::laws_of_ports;
 
@@ -7,6 +7,15 @@ use chain_law::laws_of_ports;
 /// name; and the node is the owner of that side of the port.
 pub fn sides_are_found()
     ensures { SidesAreFound }
+{
+    laws_of_ports();
+}
+
+/// A law: each chain that comes up in a run is orderly. The map rows of its tables ascend, the receivers of its open sides are
+/// sound, and what a node attaches shares neither a remote nor a local identity: a plan is refused while a node attaches the
+/// identity that it asks for, or another open plan asks for it (TS 38.300 clause 16.12.6). So a step from it has one outcome.
+pub fn runs_keep_chains_orderly()
+    ensures { RunsKeepChainsOrderly }
 {
     laws_of_ports();
 }

@@ -1,4 +1,4 @@
-//! The laws of what each run keeps in order: the sides of ports that nodes have.
+//! The laws of what each run keeps in order: the sides of ports that nodes have, the tables' rows, receivers and identities.
 //!
 //! A law has no code. It is the contract of a function that does nothing, over the definitions of chain_model; specs/ has its
 //! statement. What a body calls are the laws on which its own law stands.
@@ -6,4 +6,4 @@
 
 mod laws;
 
-pub use laws::sides_are_found;
+pub use laws::{runs_keep_chains_orderly, sides_are_found};
