@@ -20,9 +20,10 @@ use Rattle.node_model.proofs.Names.{cases_node}
 use Rattle.chain_law.proofs.Chains.{Holds, node_fits, node_name, node_there, node_set, node_kept}
 use Rattle.chain_law.proofs.Hearing.{leaves_well}
 use Rattle.chain_law.proofs.Nodes.{ParcelFits, side_fits, side_set, outgoing_fits}
-use Rattle.chain_law.proofs.Runs.{does_hold, step_holds, runs_hold}
+use Rattle.chain_law.proofs.Runs.{nothing_into, does_hold, step_holds, runs_hold}
+use Rattle.chain_law.proofs.Stands.{Logs, nothing_said}
 
-rlc_fits : (c : Chain) → Holds c → RlcFits c
+pub rlc_fits : {q : Logs} (c : Chain) → Holds q c → RlcFits c
 rlc_fits c h = record {
   ports = h.stands.ports;
   epochs = h.stands.epochs;
@@ -34,10 +35,10 @@ rlc_fits c h = record {
 }
 
 -- what holds of each chain that comes up
-comes_hold : (l : RlcLaws) {c : Chain} → ComesUp c → Holds c
+comes_hold : (l : RlcLaws) {c : Chain} → ComesUp c → Holds nothing_said c
 comes_hold l {c} (behind h stage run) = (runs_hold l h stage c run).1
-comes_hold l {c} (goes_on {old = old} line events reply up step) = step_holds l old line events reply c (comes_hold l up) step
-comes_hold l {c} (unfed {old = old} line events reply up does) = does_hold l old line events reply c (comes_hold l up) does
+comes_hold l {c} (goes_on {old = old} line events reply up step) = step_holds l old line events reply c (nothing_into old line) (comes_hold l up) step
+comes_hold l {c} (unfed {old = old} line events reply up does) = does_hold l old line events reply c (nothing_into old line) (comes_hold l up) does
 
 pub entities_are_those_of_ports : RlcLaws → EntitiesAreThoseOfPorts
 entities_are_those_of_ports l c up = rlc_fits c (comes_hold l up)
@@ -50,7 +51,7 @@ numbers_stay_within_tickets l c up side name e is = record {
   tickets = holds.tickets;
 }
   where
-    holds : Holds c
+    holds : Holds nothing_said c
     holds = comes_hold l up
 
     its : (port : Port) × (holds.stands.ports name e.epoch ≡ Some port) × Rattle.rlc_law.specs.Ports.IsSide port side e.tx e.rx

@@ -7,7 +7,7 @@ use rlc_law::{
 };
 
 /// What rlc_law proves of hops and ports.
-pub(crate) fn laws_of_ports()
+pub fn laws_of_ports()
     ensures { RlcLaws }
 {
     grant_moves_one_hop();

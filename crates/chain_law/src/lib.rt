@@ -9,6 +9,7 @@ mod foundations;
 mod rlc_laws;
 
 pub use call_laws::calls_keep_what_was_given;
+pub use foundations::laws_of_ports;
 pub use rlc_laws::{
     a_side_changes_alone, entities_are_those_of_ports, numbers_stay_within_tickets,
     sdus_can_be_taken, what_is_heard_was_given,
