@@ -16,7 +16,7 @@ use Rattle.script_text.specs.Lines.{part_of}
 use Rattle.script_text.specs.Stages.{is_past_go, first_stage, table_line, kept, tables_after, part_after, entered, after}
 use Rattle.script_text.specs.History.{Entry}
 use Rattle.chain_model.specs.declared.plan.Plan.{Plan}
-use Rattle.chain_model.specs.State.{Chain}
+use Rattle.chain_model.specs.State.{Chain, opened}
 use Rattle.chain_model.specs.Plans.{is_open}
 use Rattle.chain_model.specs.Steps.{Step}
 use Rattle.chain_model.specs.Resting.{is_finished}
@@ -116,7 +116,7 @@ entries_append [] ys = refl
 entries_append (m ∷ xs) ys = ap (λ l. m.entry ∷ l) (entries_append xs ys)
 
 -- one more line behind a past
-goes_past : (h : List Entry) (old : Chain) (p : IsPast h old) (e : Entry) (c : Chain) → Goes old e c → IsPast (e ∷ h) c
+abbrev goes_past : (h : List Entry) (old : Chain) (p : IsPast h old) (e : Entry) (c : Chain) → Goes old e c → IsPast (e ∷ h) c
 goes_past h old p e c goes = record {
   tables = p.tables;
   are_tables = p.are_tables;
@@ -128,7 +128,7 @@ goes_past h old p e c goes = record {
 }
 
 -- a drain's lines behind a past
-drains_past : (h : List Entry) (old : Chain) (p : IsPast h old) (ms : List Moment) (c : Chain) → IsRun old ms c → IsPast (map entry_of ms ++ h) c
+abbrev drains_past : (h : List Entry) (old : Chain) (p : IsPast h old) (ms : List Moment) (c : Chain) → IsRun old ms c → IsPast (map entry_of ms ++ h) c
 drains_past h old p ms c run = record {
   tables = p.tables;
   are_tables = p.are_tables;
@@ -140,7 +140,7 @@ drains_past h old p ms c run = record {
 }
 
 -- with other words for the history
-same_past : (g h : List Entry) (c : Chain) → g ≡ h → IsPast g c → IsPast h c
+abbrev same_past : (g h : List Entry) (c : Chain) → g ≡ h → IsPast g c → IsPast h c
 same_past g h c is p = record {
   tables = p.tables;
   are_tables = p.are_tables;
@@ -151,26 +151,41 @@ same_past g h c is p = record {
   passes = p.passes;
 }
 
+-- a past behind another, with its tables
+abbrev PastOn : {h : List Entry} {old : Chain} → IsPast h old → List Entry → Chain → Type 0
+PastOn p g c = (q : IsPast g c) × (q.tables ≡ p.tables)
+
 -- a line behind go
-behaves_past : (h : List Entry) (old : Chain) (p : IsPast h old) (inner : List Entry) (e : Entry) (c : Chain) (line : Line) → e.line ≡ line → Behaves old inner line e.events e.reply c → IsPast (e ∷ inner ++ h) c
+behaves_past : (h : List Entry) (old : Chain) (p : IsPast h old) (inner : List Entry) (e : Entry) (c : Chain) (line : Line) → e.line ≡ line → Behaves old inner line e.events e.reply c → PastOn p (e ∷ inner ++ h) c
 behaves_past h old p inner e c Drain is b = by (drain_refusal old) refl b.1
   where
-    by : (o : Option Reply) → drain_refusal old ≡ o → DrainsUnless o old inner e.reply c → IsPast (e ∷ inner ++ h) c
-    by (Some r) refused (no_inner, says, stays) =
-        same_past (e ∷ h) (e ∷ inner ++ h) c (ap (λ l. e ∷ l ++ h) (sym no_inner))
-        (goes_past h old p e c (drained is b.0 stays (λ ok. absurd (false≢true (sym (refusal_not_ok (find is_open old.plans) r refused) ∙ ap is_ok (sym says ∙ ok))))))
-    by None refused d =
-        same_past (e ∷ map entry_of d.moments ++ h) (e ∷ inner ++ h) c (ap (λ l. e ∷ l ++ h) (sym d.its))
-        (goes_past (map entry_of d.moments ++ h) c (drains_past h old p d.moments c d.is_drain.run) e c (drained is b.0 refl (finishes c e.reply d.ends)))
-behaves_past h old p inner e c End is b = same_past (e ∷ h) (e ∷ inner ++ h) c (ap (λ l. e ∷ l ++ h) (sym b.0)) (goes_past h old p e c (ended is b.1 b.2 b.3))
-behaves_past h old p inner e c line is b =
-    same_past (e ∷ h) (e ∷ inner ++ h) c (ap (λ l. e ∷ l ++ h) (sym b.0)) (goes_past h old p e c (steps (subst (λ l. Step old l e.events e.reply c) (sym is) b.1)))
+    by : (o : Option Reply) → drain_refusal old ≡ o → DrainsUnless o old inner e.reply c → PastOn p (e ∷ inner ++ h) c
+    by (Some r) refused (no_inner, says, stays) = (
+      same_past (e ∷ h) (e ∷ inner ++ h) c (ap (λ l. e ∷ l ++ h) (sym no_inner))
+          (goes_past h old p e c (drained is b.0 stays (λ ok. absurd (false≢true (sym (refusal_not_ok (find is_open old.plans) r refused) ∙ ap is_ok (sym says ∙ ok)))))),
+      refl,
+    )
+    by None refused d = (
+      same_past (e ∷ map entry_of d.moments ++ h) (e ∷ inner ++ h) c (ap (λ l. e ∷ l ++ h) (sym d.its))
+          (goes_past (map entry_of d.moments ++ h) c (drains_past h old p d.moments c d.is_drain.run) e c (drained is b.0 refl (finishes c e.reply d.ends))),
+      refl,
+    )
+behaves_past h old p inner e c End is b = (same_past (e ∷ h) (e ∷ inner ++ h) c (ap (λ l. e ∷ l ++ h) (sym b.0)) (goes_past h old p e c (ended is b.1 b.2 b.3)), refl)
+behaves_past h old p inner e c line is b = (
+  same_past (e ∷ h) (e ∷ inner ++ h) c (ap (λ l. e ∷ l ++ h) (sym b.0)) (goes_past h old p e c (steps (subst (λ l. Step old l e.events e.reply c) (sym is) b.1))),
+  refl,
+)
 
--- what holds of a run's stage and chain
+-- a run leads to the chain
+abbrev pub IsOfRun : Chain → Type 0
+IsOfRun c = (h : List Turn) × (stage : ScriptStage) × LeadsTo h stage c
+
+-- what holds of a run's stage and chain, and of the chain that its tables open
 pub record Led (h : List Turn) (stage : ScriptStage) (c : Chain) : Type 0 where
   pub are_tables : AreTables (contents stage)
   pub yet : is_past_go stage.part ≡ false → AllByRecursion IsDeclaration (entries h)
   pub past : IsPast (entries h) c
+  pub opens : IsOfRun (opened past.tables)
 
 -- behind a line
 abbrev TablesOf : ScriptStage → Type 0
@@ -199,6 +214,7 @@ led [] stage c (at, is) = record {
     are = refl;
     passes = is;
   };
+  opens = ([], stage, subst (LeadsTo [] stage) is (at, is));
 }
 led (t ∷ h) stage c (s, before, leads, stands, turns) =
     let l = led h s before leads in
@@ -221,6 +237,7 @@ led (t ∷ h) stage c (s, before, leads, stands, turns) =
             are = refl;
             passes = is;
           };
+          opens = (t ∷ h, stage, subst (LeadsTo (t ∷ h) stage) is (s, before, leads, stands, turns));
         }
 
     by : Led h s before → TablesOf stage × (stage.part ≡ part_after s.part t.entry.line) → (p : Part) → part_of t.entry.line ≡ p → Turns p stage before t c → Led (t ∷ h) stage c
@@ -229,8 +246,12 @@ led (t ∷ h) stage c (s, before, leads, stands, turns) =
       yet = λ not_yet.
           let part : stage.part ≡ part_after Running t.entry.line = x.1 ∙ ap (λ p. part_after p t.entry.line) (sym stands.part ∙ is) in
           absurd (true≢false (sym (runs_on t.entry.line is) ∙ ap is_past_go (sym part) ∙ not_yet));
-      past = behaves_past (entries h) before l.past t.inner t.entry c t.entry.line refl behaves;
+      past = on.0;
+      opens = subst (λ (u : Contents). IsOfRun (opened u)) (sym on.1) l.opens;
     }
+      where
+        on : PastOn l.past (entries (t ∷ h)) c
+        on = behaves_past (entries h) before l.past t.inner t.entry c t.entry.line refl behaves
     by l x AtStart is d = declares l x (ap is_past_go is) d
     by l x Tables is d = declares l x (ap is_past_go is) d
     by l x Ended is d = absurd (not_ended t.entry.line is)

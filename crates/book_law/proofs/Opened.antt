@@ -30,7 +30,7 @@ row_key : (t : Contents) (k : Key) (row : BearerRow) → IsRowOf t k row → key
 row_key t k row its = ap (λ r. key_of r row.drb k.way) its.remote ∙ ap (λ d. key_of k.remote d k.way) its.drb
 
 -- what holds of each row holds of one of them
-member : {X : Type 0} (P : X → Type 0) (xs : List X) (x : X) → AllByRecursion P xs → Contains xs x → P x
+pub member : {X : Type 0} (P : X → Type 0) (xs : List X) (x : X) → AllByRecursion P xs → Contains xs x → P x
 member P [] x all m = absurd (omega (arith, m.1))
 member P (y ∷ xs) x all (zero, lt, same) = subst P same all.0
 member P (y ∷ xs) x all (suc n, lt, same) = member P xs x all.1 (n, omega arith, same)

@@ -18,7 +18,7 @@ use Rattle.link_base.specs.declared.names.Way.TheVariants.{Ul, Dl}
 use Rattle.bearer_map.specs.Contents.{Contents}
 use Rattle.rlc_model.specs.declared.hop.Pdu.{Pdu}
 use Rattle.rlc_model.specs.Sides.{Entity}
-use Rattle.rlc_law.specs.Ports.{Port, Ports, Changes, hop_of, start_port, opens}
+use Rattle.rlc_law.specs.Ports.{Settings, Port, Ports, Changes, hop_of, start_port, opens}
 use Rattle.rlc_law.specs.Sides.{Epochs, start_entity, begins, follows, closes}
 use Rattle.pdcp_model.specs.Sender.{begins_wait}
 use Rattle.script_text.specs.declared.event.Event.{Event}
@@ -38,7 +38,7 @@ use Rattle.chain_law.specs.Entities.{port_settings, next_epoch}
 use Rattle.node_model.proofs.Names.{remote_is, node_is, node_refl, port_refl, cases_node, cases_port, cases_owner, owner_side}
 use Rattle.node_model.proofs.Finding.{find_map, find_none, each_map, each_replaced}
 use Rattle.chain_law.specs.Foundations.{RlcLaws}
-use Rattle.chain_law.proofs.Stands.{entity_changes, sizes_stay, View, Limits, Stands, sides_of, shown, put, put_here, put_other, put_alike, stands_same}
+use Rattle.chain_law.proofs.Stands.{entity_changes, sizes_stay, View, Limits, Stands, sides_of, heard_in, Logs, shown, put, put_here, put_other, put_alike, stands_same}
 use Rattle.chain_law.proofs.Pairs.{Pairwise}
 use Rattle.chain_law.proofs.Nodes.{NodeFits, SideFits, ParcelFits, OutgoingFits, port_of, Differ, IsOwned, side_name}
 use Rattle.chain_law.proofs.Mixing.{stands_higher, mixed, mixed_before, mixed_other, mixed_this, all_mixed}
@@ -50,14 +50,19 @@ pub start_is : (t : Contents) (name : PortName) (side : Side) (epoch : ℕ) → 
 start_is t name Low epoch = refl
 start_is t name High epoch = refl
 
+-- a port at its start has heard nothing
+pub start_heard : (s : Settings) (way : Way) → heard_in (Some (start_port s)) way ≡ []
+start_heard s Ul = refl
+start_heard s Dl = refl
+
 -- a side of a port opens in an epoch to which it had not come, or closes
-module _ (l : RlcLaws) {t : Contents} {limit : Limits} {air : List (Option Pdu)} {view : View} (s : Stands t view limit air) (side : Side) (name : PortName) (was now : PortSide)
+module _ (l : RlcLaws) {logs : Logs} {t : Contents} {limit : Limits} {air : List (Option Pdu)} {view : View} (s : Stands logs t view limit air) (side : Side) (name : PortName) (was now : PortSide)
     (there : view (owner side name) name ≡ Some was) (same_size : now.size ≡ was.size)
     (new : View) (change : Changes view (owner side name) name (Some now) new) (higher : Limits) (le : (at : Side) (q : PortName) → limit at q ≤ higher at q) where
   side_changes : Changes (sides_of view) side name now.entity (sides_of new)
   side_changes = entity_changes s side name was now there same_size new change
 
-  closes_stands : now.entity ≡ None → Stands t new higher air
+  closes_stands : now.entity ≡ None → Stands logs t new higher air
   closes_stands none = record {
     ports = s.ports;
     epochs = s.epochs;
@@ -68,6 +73,7 @@ module _ (l : RlcLaws) {t : Contents} {limit : Limits} {air : List (Option Pdu)}
     few = s.few;
     within = λ at q. omega (arith, s.within at q, le at q);
     sizes = sizes_stay s side name was now there same_size new change;
+    heard = s.heard;
   }
 
   module _ (epoch : ℕ) (its : now.entity ≡ Some (new_entity (settings t) was.size epoch)) (past : limit side name ≤ epoch) (up : epoch + 1 ≤ higher side name) where
@@ -95,7 +101,7 @@ module _ (l : RlcLaws) {t : Contents} {limit : Limits} {air : List (Option Pdu)}
     ]
 
     -- the other side has opened the port in this epoch, or none has
-    opens_stands : (found : Option Port) → s.ports name epoch ≡ found → Stands t new higher air
+    opens_stands : (found : Option Port) → s.ports name epoch ≡ found → Stands logs t new higher air
     opens_stands (Some port) is = record {
       ports = s.ports;
       epochs = epochs.0;
@@ -105,6 +111,7 @@ module _ (l : RlcLaws) {t : Contents} {limit : Limits} {air : List (Option Pdu)}
       few = s.few;
       within = still_within;
       sizes = sizes_stay s side name was now there same_size new change;
+      heard = s.heard;
     }
     opens_stands None is = record {
       ports = ports.0;
@@ -115,6 +122,7 @@ module _ (l : RlcLaws) {t : Contents} {limit : Limits} {air : List (Option Pdu)}
       few = few;
       within = still_within;
       sizes = sizes_stay s side name was now there same_size new change;
+      heard = λ q e way. subst (logs q e way) (sym (nothing_more q e way)) (s.heard q e way);
     }
       where
         ports : (new_ports : Ports) × Changes s.ports name epoch (Some (start_port (port_settings t name))) new_ports
@@ -128,6 +136,18 @@ module _ (l : RlcLaws) {t : Contents} {limit : Limits} {air : List (Option Pdu)}
         start_few Ul = omega arith
         start_few Dl = omega arith
 
+        -- a port that opens has heard nothing, as one that isn't there
+        nothing_more : (q : PortName) (e : ℕ) (way : Way) → heard_in (ports.0 q e) way ≡ heard_in (s.ports q e) way
+        nothing_more q e way = elim (cases_port q name) [
+          | inr ne ↦ ap (λ (o : Option Port). heard_in o way) (ports.1.others q e (λ same. ne same.0))
+          | inl same ↦ elim (cases_eq e epoch) [
+            | inr ne ↦ ap (λ (o : Option Port). heard_in o way) (ports.1.others q e (λ same. ne same.1))
+            | inl one ↦ ap (λ (x : PortName). heard_in (ports.0 x e) way) same ∙ ap (λ (x : ℕ). heard_in (ports.0 name x) way) one
+                ∙ ap (λ (o : Option Port). heard_in o way) ports.1.here ∙ start_heard (port_settings t name) way ∙ ap (λ (o : Option Port). heard_in o way) (sym is)
+                ∙ ap (λ (x : ℕ). heard_in (s.ports name x) way) (sym one) ∙ ap (λ (x : PortName). heard_in (s.ports x e) way) (sym same)
+          ]
+        ]
+
         few : (q : PortName) (e : ℕ) (p : Port) (way : Way) → ports.0 q e ≡ Some p → length (hop_of p way).pdus ≤ length air
         few q e p way at = elim (cases_port q name) [
           | inr ne ↦ s.few q e p way (sym (ports.1.others q e (λ same. ne same.0)) ∙ at)
@@ -139,7 +159,7 @@ module _ (l : RlcLaws) {t : Contents} {limit : Limits} {air : List (Option Pdu)}
         ]
 
 -- a node applies a plan, a port of its own after another
-module _ (l : RlcLaws) (t : Contents) (air : List (Option Pdu)) (limit : Limits) (v : View) (n : Node) (x : NodeName) (remote : Remote) (goal : Goal) (epoch : ℕ)
+module _ (l : RlcLaws) (logs : Logs) (t : Contents) (air : List (Option Pdu)) (limit : Limits) (v : View) (n : Node) (x : NodeName) (remote : Remote) (goal : Goal) (epoch : ℕ)
     (fresh : (side : Side) (name : PortName) → owner side name ≡ x → is_of remote name ≡ true → limit side name ≤ epoch) where
   abbrev pub applied : Node
   applied = node_after (settings t) remote goal epoch n
@@ -180,10 +200,10 @@ module _ (l : RlcLaws) (t : Contents) (air : List (Option Pdu)) (limit : Limits)
       by false true = omega arith
       by false false = omega arith
 
-  module _ (p : PortName) (names : List PortName) (new_name : list_any (is_port p) names ≡ false) (s : Stands t (put v x (mixed n applied names)) (limit_by names) air) where
+  module _ (p : PortName) (names : List PortName) (new_name : list_any (is_port p) names ≡ false) (s : Stands logs t (put v x (mixed n applied names)) (limit_by names) air) where
     -- where the same is said of the port's side, or no side of it is the node's
     same_said : (((side : Side) × (owner side p ≡ x)) → option_map shown (side_at applied p) ≡ option_map shown (side_at n p))
-        → Stands t (put v x (mixed n applied (p ∷ names))) (limit_by (p ∷ names)) air
+        → Stands logs t (put v x (mixed n applied (p ∷ names))) (limit_by (p ∷ names)) air
     same_said same = stands_higher (limit_by (p ∷ names)) (up_by p names) (stands_same _ (put_alike v x (mixed n applied names) (mixed n applied (p ∷ names)) said) s)
       where
         said : (q : PortName) → (side : Side) × (owner side q ≡ x) → option_map shown (mixed n applied (p ∷ names) q) ≡ option_map shown (mixed n applied names q)
@@ -216,7 +236,7 @@ module _ (l : RlcLaws) (t : Contents) (air : List (Option Pdu)) (limit : Limits)
         }
 
         -- a port of the remote's own
-        own_port : is_of remote p ≡ true → (is_open : Bool) → is_open_on goal p ≡ is_open → Stands t (put v x (mixed n applied (p ∷ names))) (limit_by (p ∷ names)) air
+        own_port : is_of remote p ≡ true → (is_open : Bool) → is_open_on goal p ≡ is_open → Stands logs t (put v x (mixed n applied (p ∷ names))) (limit_by (p ∷ names)) air
         own_port of true is = opens_stands l s side p was (turned was) in_view refl (put v x (mixed n applied (p ∷ names))) change (limit_by (p ∷ names)) (up_by p names) epoch
             (cond-true (is_of remote was.name) _ was.entity (ap (is_of remote) (sym its_name) ∙ of)
             ∙ cond-true (is_open_on goal was.name) _ None (ap (is_open_on goal) (sym its_name) ∙ is))
@@ -233,10 +253,10 @@ module _ (l : RlcLaws) (t : Contents) (air : List (Option Pdu)) (limit : Limits)
           ∙ ap (λ (e : Option Entity). Some (record { entity = e; size = was.size })) (cond-false (is_of remote was.name) _ was.entity (ap (is_of remote) (sym its_name) ∙ of))
           ∙ ap (option_map shown) (sym there)
 
-    one_more : Stands t (put v x (mixed n applied (p ∷ names))) (limit_by (p ∷ names)) air
+    one_more : Stands logs t (put v x (mixed n applied (p ∷ names))) (limit_by (p ∷ names)) air
     one_more = by (side_at n p) refl
       where
-        by : (found : Option PortSide) → side_at n p ≡ found → Stands t (put v x (mixed n applied (p ∷ names))) (limit_by (p ∷ names)) air
+        by : (found : Option PortSide) → side_at n p ≡ found → Stands logs t (put v x (mixed n applied (p ∷ names))) (limit_by (p ∷ names)) air
         by None is = same_said (λ own. ap (option_map shown) (after_is p ∙ ap (option_map turned) is ∙ sym is))
         by (Some was) is = elim (cases_owner x p) [
           | inr none ↦ same_said (λ own. absurd (none own.0 own.1))
@@ -246,9 +266,9 @@ module _ (l : RlcLaws) (t : Contents) (air : List (Option Pdu)) (limit : Limits)
           ]
         ]
 
-  pub applied_stands : Stands t (put v x (side_at n)) limit air → Stands t (put v x (side_at applied)) raised air
+  pub applied_stands : Stands logs t (put v x (side_at n)) limit air → Stands logs t (put v x (side_at applied)) raised air
   applied_stands s = stands_higher raised (λ side q. low side q (list_any (is_port q) (map port_of n.ports)))
-      (all_mixed n applied v x limit_by up_by one_more (λ q none. after_is q ∙ ap (option_map turned) none) s)
+      (all_mixed n applied v x limit_by (λ names. logs) up_by (λ p names again name e way heard so. so) one_more (λ q none. after_is q ∙ ap (option_map turned) none) s)
     where
       low : (side : Side) (q : PortName) (b : Bool) → cond b (raised side q) (limit side q) ≤ raised side q
       low side q true = omega arith
@@ -349,9 +369,10 @@ not_applied c remote kind plan its none = first (Rattle.std.specs.Prelude.not (R
     first false e = second (Rattle.std.specs.Prelude.not (is_open plan)) (ap (λ (p : Option Plan). node_refusal p kind) (sym its) ∙ e)
 
 -- each node learns that all have applied the plan
-closed_holds : (remote : Remote) (c : Chain) → Holds c → Holds (record c { nodes = map (node_closed remote) c.nodes })
+closed_holds : {logs : Logs} (remote : Remote) (c : Chain) → Holds logs c → Holds logs (record c { nodes = map (node_closed remote) c.nodes })
 closed_holds remote c h = record {
   limit = h.limit;
+  apart = h.apart;
   stands = stands_same _ (λ side name. ap (option_map shown) (same (owner side name) name)) h.stands;
   fresh = h.fresh;
   nodes = each_map NodeFits NodeFits (node_closed remote) (λ n fits. record { ports = fits.ports; outgoing = fits.outgoing; apart = fits.apart; owned = fits.owned }) c.nodes h.nodes;
@@ -366,9 +387,9 @@ closed_holds remote c h = record {
         by None = refl
         by (Some n) = refl
 
-pub applies_hold : (l : RlcLaws) (old : Chain) (remote : Remote) (kind : NodeKind) (events : List Event) (reply : Reply) (new : Chain) → Holds old
-    → apply_refusal old remote kind ≡ None → Applies old remote kind events reply new → Holds new
-applies_hold l old remote kind events reply new h none a = subst Holds (sym a.is) (close (is_open (marks a.plan kind)))
+pub applies_hold : (l : RlcLaws) {logs : Logs} (old : Chain) (remote : Remote) (kind : NodeKind) (events : List Event) (reply : Reply) (new : Chain) → Holds logs old
+    → apply_refusal old remote kind ≡ None → Applies old remote kind events reply new → Holds logs new
+applies_hold l {logs} old remote kind events reply new h none a = subst (Holds logs) (sym a.is) (close (is_open (marks a.plan kind)))
   where
     x : NodeName
     x = node_of kind remote
@@ -389,15 +410,15 @@ applies_hold l old remote kind events reply new h none a = subst Holds (sym a.is
     fresh side name own of = omega (arith, h.fresh remote a.plan a.its side name of, ap (next_epoch a.plan) (kind_here side name own), not_yet)
 
     up : Limits
-    up = raised l old.tables old.air h.limit (view old) n x remote a.plan.goal a.plan.epoch fresh
+    up = raised l logs old.tables old.air h.limit (view old) n x remote a.plan.goal a.plan.epoch fresh
 
-    stands : (o : Option Node) → find (λ (n : Node). is_node x n.name) old.nodes ≡ o → Stands old.tables (view (set_node old m)) up old.air
+    stands : (o : Option Node) → find (λ (n : Node). is_node x n.name) old.nodes ≡ o → Stands logs old.tables (view (set_node old m)) up old.air
     stands None is =
         let gone : find (λ (y : Node). is_node m.name y.name) old.nodes ≡ None = ap (λ (y : NodeName). find (λ (n : Node). is_node y n.name) old.nodes) (node_name old x) ∙ is in
-        stands_higher up (raised_up l old.tables old.air h.limit (view old) n x remote a.plan.goal a.plan.epoch fresh)
-        (subst (λ (ns : List Node). Stands old.tables (view_in ns) h.limit old.air) (sym (find_none (λ (y : Node). is_node m.name y.name) m old.nodes gone)) h.stands)
+        stands_higher up (raised_up l logs old.tables old.air h.limit (view old) n x remote a.plan.goal a.plan.epoch fresh)
+        (subst (λ (ns : List Node). Stands logs old.tables (view_in ns) h.limit old.air) (sym (find_none (λ (y : Node). is_node m.name y.name) m old.nodes gone)) h.stands)
     stands (Some was) is = set_stands old x m was (node_name old x) is
-        (applied_stands l old.tables old.air h.limit (view old) n x remote a.plan.goal a.plan.epoch fresh (put_own old.nodes x h.stands))
+        (applied_stands l logs old.tables old.air h.limit (view old) n x remote a.plan.goal a.plan.epoch fresh (put_own old.nodes x h.stands))
 
     -- what is next behind the plan that is marked
     next_here : (side : Side) (name : PortName) → is_of remote name ≡ true → (b : Bool) → is_node x (owner side name) ≡ b
@@ -405,9 +426,10 @@ applies_hold l old remote kind events reply new h none a = subst Holds (sym a.is
     next_here side name of true is = omega (arith, ap (next_epoch (marks a.plan kind)) (kind_here side name (sym (node_is x (owner side name) is))), marked_here a.plan kind)
     next_here side name of false is = omega (arith, h.fresh remote a.plan a.its side name of, marked_up a.plan kind (kind_of (owner side name)))
 
-    marked : Holds (set_plan (set_node old m) (marks a.plan kind))
+    marked : Holds logs (set_plan (set_node old m) (marks a.plan kind))
     marked = record {
       limit = up;
+      apart = h.apart;
       stands = stands (find (λ (n : Node). is_node x n.name) old.nodes) refl;
       fresh = λ r q is side name of. elim (plan_was (set_node old m) remote a.plan (marks a.plan kind) a.its (same_remote a.plan kind) r q is) [
         | inl this ↦ subst (λ (q : Plan). up side name ≤ next_epoch q (kind_of (owner side name))) (sym this.1)
@@ -430,6 +452,6 @@ applies_hold l old remote kind events reply new h none a = subst Holds (sym a.is
           | inr fails ↦ ap (λ (b : Bool). cond (b && is_node x (owner side name)) (a.plan.epoch + 1) (h.limit side name)) fails
         ]
 
-    close : (still : Bool) → Holds (closed remote still (set_plan (set_node old m) (marks a.plan kind)))
+    close : (still : Bool) → Holds logs (closed remote still (set_plan (set_node old m) (marks a.plan kind)))
     close true = marked
     close false = closed_holds remote (set_plan (set_node old m) (marks a.plan kind)) marked

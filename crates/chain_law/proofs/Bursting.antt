@@ -4,6 +4,7 @@ use Rattle.std.specs.List.{AllByRecursion, AllZip}
 use Rattle.std.proofs.lemmas.Bool.{cases_Bool, cond-true, cond-false}
 use Rattle.std.proofs.lemmas.Option.{none-some, same_Some}
 use Rattle.link_base.specs.declared.names.PortName.{PortName}
+use Rattle.bearer_map.specs.Contents.{Contents}
 use Rattle.rlc_model.specs.declared.hop.Pdu.{Pdu}
 use Rattle.rlc_model.specs.Hop.{on_air, off_air}
 use Rattle.rlc_model.specs.Sides.{Entity, hearer_of, way_from}
@@ -23,10 +24,10 @@ use Rattle.chain_model.specs.Bursts.{goes_over, inbox, with_side, Treats, Ingest
 use Rattle.node_model.proofs.Names.{cases_node, port_refl, port_apart, cases_port}
 use Rattle.chain_law.proofs.Pairs.{each_passes}
 use Rattle.chain_law.specs.Foundations.{RlcLaws}
-use Rattle.chain_law.proofs.Stands.{Stands, moves, shown, put, put_alike, stands_same, window, calls, SideChanges, node_stands, window_shown}
+use Rattle.chain_law.proofs.Stands.{Logs, Stands, moves, shown, put, put_alike, stands_same, window, calls, SideChanges, node_stands, window_shown}
 use Rattle.chain_law.proofs.Nodes.{SideFits, ParcelFits, port_of, side_name, side_set, side_fits, fits_side}
 use Rattle.chain_law.proofs.Chains.{Holds, view, node_fits, node_name, node_there, node_set, node_kept, off_holds}
-use Rattle.chain_law.proofs.Hearing.{hears_stand, hears_name}
+use Rattle.chain_law.proofs.Hearing.{Takes, hears_stand, hears_name}
 
 -- a node that has this one side of a port
 abbrev pub alone : PortSide → Node
@@ -67,26 +68,30 @@ air_case air (HeardTicket ticket (Stale number next)) = inl refl
 air_case air (HeardTicket ticket reply) = inr (ticket, refl)
 air_case air event = inl refl
 
-module _ (l : RlcLaws) where
-  pub folded_holds : (events : List Event) (c : Chain) → Holds c → Holds (record c { air = fold air_after c.air events })
-  folded_holds [] c h = record { limit = h.limit; stands = h.stands; fresh = h.fresh; nodes = h.nodes; tickets = h.tickets }
+-- nothing is said of what the relay hears
+abbrev pub IsFree : Logs → Type 0
+IsFree logs = (t : Contents) (pdu : Pdu) → owner (hearer_of pdu.way) pdu.port ≡ AtRelay → Takes t pdu logs logs
+
+module _ (l : RlcLaws) {logs : Logs} where
+  pub folded_holds : (events : List Event) (c : Chain) → Holds logs c → Holds logs (record c { air = fold air_after c.air events })
+  folded_holds [] c h = record { limit = h.limit; apart = h.apart; stands = h.stands; fresh = h.fresh; nodes = h.nodes; tickets = h.tickets }
   folded_holds (e ∷ events) c h = folded_holds events (record c { air = air_after c.air e }) (elim (air_case c.air e) [
-    | inl same ↦ subst (λ (air : List (Option Pdu)). Holds (record c { air = air })) (sym same)
-        (record { limit = h.limit; stands = h.stands; fresh = h.fresh; nodes = h.nodes; tickets = h.tickets })
-    | inr off ↦ subst (λ (air : List (Option Pdu)). Holds (record c { air = air })) (sym off.1) (off_holds l c off.0 h)
+    | inl same ↦ subst (λ (air : List (Option Pdu)). Holds logs (record c { air = air })) (sym same)
+        (record { limit = h.limit; apart = h.apart; stands = h.stands; fresh = h.fresh; nodes = h.nodes; tickets = h.tickets })
+    | inr off ↦ subst (λ (air : List (Option Pdu)). Holds logs (record c { air = air })) (sym off.1) (off_holds l c off.0 h)
   ])
 
-  module _ (c : Chain) (h : Holds c) where
+  module _ (c : Chain) (h : Holds logs c) where
     abbrev pub relay : Node
     relay = node_at c AtRelay
 
     abbrev pub StandsWith : (PortName → Option PortSide) → Type 0
-    StandsWith sides = Stands c.tables (put (view c) AtRelay sides) h.limit c.air
+    StandsWith sides = Stands logs c.tables (put (view c) AtRelay sides) h.limit c.air
 
     pub alike : (old new : PortName → Option PortSide) → ((q : PortName) → new q ≡ old q) → StandsWith old → StandsWith new
     alike old new same s = stands_same _ (put_alike (view c) AtRelay old new (λ q own. ap (option_map shown) (same q))) s
 
-    module _ (p : PortName) (first : PortSide) (there : side_at relay p ≡ Some first) (rest : PortName → Option PortSide) where
+    module _ (free : IsFree logs) (p : PortName) (first : PortSide) (there : side_at relay p ≡ Some first) (rest : PortName → Option PortSide) where
       -- a side of the port on its way through a burst
       pub record OnItsWay (s : PortSide) : Type 0 where
         pub stands : StandsWith (with_one p rest s)
@@ -148,7 +153,7 @@ module _ (l : RlcLaws) where
             stands = alike (window (is_port p) rest node) (with_one p rest new) (one_is p rest new (window (is_port p) rest node) name_new
                 (cond-true (is_port p p) (side_at node p) (rest p) (port_refl p) ∙ is_new)
                 (λ q ne. cond-false (is_port p q) (side_at node q) (rest q) (port_apart p q (λ e. ne (sym e)))))
-                (subst (λ (y : NodeName). Stands c.tables (put (view c) y (window (is_port p) rest node)) h.limit c.air) is heard.0);
+                (subst (λ (y : NodeName). Stands logs c.tables (put (view c) y (window (is_port p) rest node)) h.limit c.air) is heard.0);
             fits = side_fits node p new heard.1.fits is_new;
             name = name_new;
           }
@@ -159,14 +164,15 @@ module _ (l : RlcLaws) where
               comes_to : node_at (with_side c side) x ≡ n
               comes_to = ap (node_at (with_side c side)) is ∙ found
 
-              before : Stands c.tables (put (view c) x (window (is_port p) rest n)) h.limit c.air
-              before = subst (λ (y : NodeName). Stands c.tables (put (view c) y (window (is_port p) rest n)) h.limit c.air) (sym is)
+              before : Stands logs c.tables (put (view c) x (window (is_port p) rest n)) h.limit c.air
+              before = subst (λ (y : NodeName). Stands logs c.tables (put (view c) y (window (is_port p) rest n)) h.limit c.air) (sym is)
                   (alike (with_one p rest side) (window (is_port p) rest n) (λ q. sym (one_is p rest side (window (is_port p) rest n) o.name
                   (cond-true (is_port p p) (side_at n p) (rest p) (port_refl p) ∙ sc.here)
                   (λ q ne. cond-false (is_port p q) (side_at n q) (rest q) (port_apart p q (λ e. ne (sym e)))) q)) o.stands)
 
-              heard : Stands c.tables (put (view c) x (window (is_port p) rest node)) h.limit c.air × Rattle.chain_law.proofs.Hearing.HearsOn n pdu.port node
+              heard : Stands logs c.tables (put (view c) x (window (is_port p) rest node)) h.limit c.air × Rattle.chain_law.proofs.Hearing.HearsOn logs logs n pdu.port node
               heard = hears_stand l c.tables (view c) (is_port p) rest ticket pdu on over n node t.2.answer (fits_side relay side (node_fits c h AtRelay) o.fits)
+                  (record { taken = λ none data_pdu. free c.tables pdu is; kept = λ not_taken name epoch way heard so. so })
                   (subst (λ (y : Node). Rattle.node_model.specs.Hearing.HearsPdu c.tables y (hearer_of pdu.way) pdu t.2.answer node) comes_to t.2.hears) before
 
               node_is_set : node_at (set_node (with_side c side) node) AtRelay ≡ node
@@ -292,9 +298,9 @@ module _ (l : RlcLaws) where
     own_place side p sides name here = alike sides (with_one p sides side) (one_is p sides side sides name here (λ q ne. refl))
 
     -- each ingress port works from the chain as it stands
-    pub ingress_works : (side : PortSide) (i : Ingress) (p : PortName) (sides : PortName → Option PortSide) (there : side_at relay p ≡ Some side) → SideFits side
-        → sides p ≡ Some side → StandsWith sides → Ingesting side i → OnItsWay p side there sides i.behind × AllByRecursion ParcelFits i.put
-    ingress_works side i p sides there fits here s w = ingested p side there sides (record { stands = own_place side p sides name here s; fits = fits; name = name }) over w
+    pub ingress_works : (free : IsFree logs) (side : PortSide) (i : Ingress) (p : PortName) (sides : PortName → Option PortSide) (there : side_at relay p ≡ Some side) → SideFits side
+        → sides p ≡ Some side → StandsWith sides → Ingesting side i → OnItsWay free p side there sides i.behind × AllByRecursion ParcelFits i.put
+    ingress_works free side i p sides there fits here s w = ingested free p side there sides (record { stands = own_place side p sides name here s; fits = fits; name = name }) over w
       where
         name : side.name ≡ p
         name = sym (side_name relay p side there)

@@ -15,11 +15,11 @@ use Rattle.node_model.proofs.Names.{port_refl, port_apart}
 use Rattle.node_model.proofs.Finding.{each_append, each_left, each_right, each_replaced, find_none}
 use Rattle.chain_law.proofs.Pairs.{Pairwise, each_picked}
 use Rattle.chain_law.specs.Foundations.{RlcLaws}
-use Rattle.chain_law.proofs.Stands.{Stands, put}
+use Rattle.chain_law.proofs.Stands.{Logs, Stands, put}
 use Rattle.chain_law.proofs.Nodes.{NodeFits, SideFits, ParcelFits, port_of, Differ, IsOwned, side_fits}
 use Rattle.chain_law.proofs.Chains.{Holds, view, view_in, node_fits, node_name, put_own, set_stands}
 use Rattle.chain_law.proofs.Mixing.{mixed, mixed_before, mixed_other, mixed_this, all_mixed}
-use Rattle.chain_law.proofs.Bursting.{folded_holds, StandsWith, alike, emitted, Burst, Ingesting, joined, names_stay, found_behind, none_behind, ingress_works, with_one, one_is}
+use Rattle.chain_law.proofs.Bursting.{IsFree, folded_holds, StandsWith, alike, emitted, Burst, Ingesting, joined, names_stay, found_behind, none_behind, ingress_works, with_one, one_is}
 
 -- sides with names apart are each the one that is found under its name
 pub all_found : (ports : List PortSide) → Pairwise Differ (map port_of ports) → AllByRecursion (λ (s : PortSide). find (λ (x : PortSide). is_port s.name x.name) ports ≡ Some s) ports
@@ -56,11 +56,11 @@ record Ended (i : Ingress) : Type 0 where
   side : SideFits i.behind
   put : AllByRecursion ParcelFits i.put
 
-pub bursts_hold : (l : RlcLaws) (old : Chain) (events : List Event) (reply : Reply) (new : Chain) → Holds old → Bursts old events reply new → Holds new
-bursts_hold l old events reply new h b = subst Holds (sym b.is) (forgotten (folded_holds l events (set_node old m) changed))
+pub bursts_hold : (l : RlcLaws) {logs : Logs} → IsFree logs → (old : Chain) (events : List Event) (reply : Reply) (new : Chain) → Holds logs old → Bursts old events reply new → Holds logs new
+bursts_hold l {logs} free old events reply new h b = subst (Holds logs) (sym b.is) (forgotten (folded_holds l events (set_node old m) changed))
   where
-    forgotten : {c : Chain} → Holds c → Holds (record c { staged = [] })
-    forgotten h = record { limit = h.limit; stands = h.stands; fresh = h.fresh; nodes = h.nodes; tickets = h.tickets }
+    forgotten : {c : Chain} → Holds logs c → Holds logs (record c { staged = [] })
+    forgotten h = record { limit = h.limit; apart = h.apart; stands = h.stands; fresh = h.fresh; nodes = h.nodes; tickets = h.tickets }
 
     n : Node
     n = node_at old AtRelay
@@ -77,14 +77,14 @@ bursts_hold l old events reply new h b = subst Holds (sym b.is) (forgotten (fold
     fits : NodeFits n
     fits = node_fits old h AtRelay
 
-    own : Stands old.tables (put (view old) AtRelay (side_at n)) h.limit old.air
+    own : Stands logs old.tables (put (view old) AtRelay (side_at n)) h.limit old.air
     own = put_own old.nodes AtRelay h.stands
 
     ends : (ports : List PortSide) (ingresses : List Ingress) → AllZip (Ingesting l old h) ports ingresses → AllByRecursion (λ (s : PortSide). side_at n s.name ≡ Some s) ports
         → AllByRecursion SideFits ports → AllByRecursion Ended ingresses
     ends [] [] all there fit = tt
     ends (s ∷ ss) (i ∷ is) all there fit =
-        let w = ingress_works l old h s i s.name (side_at n) there.0 fit.0 there.0 own all.0 in
+        let w = ingress_works l old h free s i s.name (side_at n) there.0 fit.0 there.0 own all.0 in
         (record { side = w.0.fits; put = w.1 }, ends ss is all.1 there.1 fit.1)
     ends [] (i ∷ is) all there fit = absurd all
     ends (s ∷ ss) [] all there fit = absurd all
@@ -131,25 +131,26 @@ bursts_hold l old events reply new h b = subst Holds (sym b.is) (forgotten (fold
             ]
         by (Some side) there =
             let found = found_behind l old h cap put_all p n.ports b.egresses zipped side there in
-            let w = ingress_works l old h side found.2.i p (mixed n m names) there (side_fits n p side fits there) (mixed_before n m names p new_name ∙ there) s found.2.ingests in
-            let done = emitted l old h p side there (mixed n m names) cap put_all found.2.i.behind found.0 w.0.name
+            let w = ingress_works l old h free side found.2.i p (mixed n m names) there (side_fits n p side fits there) (mixed_before n m names p new_name ∙ there) s found.2.ingests in
+            let done = emitted l old h free p side there (mixed n m names) cap put_all found.2.i.behind found.0 w.0.name
             (each_left ParcelFits found.0.taken found.0.behind.queue (taken_fits found.2.i.behind found.0 w.0.fits found.2.emits)) found.2.emits w.0.stands in
             let name : found.0.behind.name ≡ p = ap (λ (s : PortSide). s.name) found.2.emits.is ∙ w.0.name in
             alike l old h (with_one p (mixed n m names) found.0.behind) (mixed n m (p ∷ names))
             (λ q. sym (one_is p (mixed n m names) found.0.behind (mixed n m (p ∷ names)) name (mixed_this n m p names ∙ found.1) (λ q ne. mixed_other n m p names q ne) q)) done
 
-    all : Stands old.tables (put (view old) AtRelay (side_at m)) h.limit old.air
-    all = all_mixed n m (view old) AtRelay (λ names. h.limit) (λ p names side q. omega arith) one (λ q none. none_behind l old h cap put_all q n.ports b.egresses zipped none) own
+    all : Stands logs old.tables (put (view old) AtRelay (side_at m)) h.limit old.air
+    all = all_mixed n m (view old) AtRelay (λ names. h.limit) (λ names. logs) (λ p names side q. omega arith) (λ p names again name epoch way heard so. so) one (λ q none. none_behind l old h cap put_all q n.ports b.egresses zipped none) own
 
-    stands : (o : Option Node) → find (λ (x : Node). is_node AtRelay x.name) old.nodes ≡ o → Stands old.tables (view (set_node old m)) h.limit old.air
+    stands : (o : Option Node) → find (λ (x : Node). is_node AtRelay x.name) old.nodes ≡ o → Stands logs old.tables (view (set_node old m)) h.limit old.air
     stands (Some was) is = set_stands old AtRelay m was (node_name old AtRelay) is all
     stands None is =
         let none : find (λ (x : Node). is_node m.name x.name) old.nodes ≡ None = ap (λ (y : _). find (λ (x : Node). is_node y x.name) old.nodes) (node_name old AtRelay) ∙ is in
-        subst (λ (ns : List Node). Stands old.tables (view_in ns) h.limit old.air) (sym (find_none (λ (x : Node). is_node m.name x.name) m old.nodes none)) h.stands
+        subst (λ (ns : List Node). Stands logs old.tables (view_in ns) h.limit old.air) (sym (find_none (λ (x : Node). is_node m.name x.name) m old.nodes none)) h.stands
 
-    changed : Holds (set_node old m)
+    changed : Holds logs (set_node old m)
     changed = record {
       limit = h.limit;
+      apart = h.apart;
       stands = stands (find (λ (x : Node). is_node AtRelay x.name) old.nodes) refl;
       fresh = h.fresh;
       nodes = each_replaced NodeFits (λ (x : Node). is_node m.name x.name) m

@@ -22,8 +22,9 @@ use Rattle.node_model.proofs.Names.{node_is, node_refl, node_apart, cases_node}
 use Rattle.node_model.proofs.Finding.{find_passes, find_hit, find_miss, find_none, each_found, each_replaced}
 use Rattle.chain_law.proofs.Counting.{air_long}
 use Rattle.chain_law.specs.Foundations.{RlcLaws}
-use Rattle.chain_law.proofs.Stands.{View, Limits, Stands, shown, put, put_here, put_other, stands_same, stands_off, node_stands, all_seen, no_rest}
+use Rattle.chain_law.proofs.Stands.{View, Limits, Logs, Implies, Stands, stands_implied, shown, put, put_here, put_other, stands_same, stands_off, node_stands, all_seen, no_rest}
 use Rattle.chain_law.proofs.Nodes.{NodeFits, Goes}
+use Rattle.chain_law.proofs.Tables.{TablesApart}
 use Rattle.chain_law.proofs.Feeds.{feeds_goes}
 
 -- the node of a name in a list of nodes, and the sides that such nodes have
@@ -36,19 +37,25 @@ view_in nodes x = side_at (node_in nodes x)
 abbrev pub view : Chain → View
 view c = view_in c.nodes
 
--- what holds of a chain: its sides stand, the SDUs of its nodes are such as can be taken, and at most 2^61 tickets were made
-pub record Holds (c : Chain) : Type 0 where
+-- what holds of a chain: its sides stand, with what is said of what they heard, the SDUs of its nodes are such as can be taken, at most 2^61 tickets were made, and the rows of its
+-- tables have names apart
+pub record Holds (q : Logs) (c : Chain) : Type 0 where
   pub limit : Limits
-  pub stands : Stands c.tables (view c) limit c.air
+  pub stands : Stands q c.tables (view c) limit c.air
   pub fresh : (remote : Remote) (plan : Plan) → plan_at c remote ≡ Some plan → (side : Side) (name : PortName) → is_of remote name ≡ true
       → limit side name ≤ next_epoch plan (kind_of (owner side name))
   pub nodes : AllByRecursion NodeFits c.nodes
   pub tickets : length c.air ≤ 2305843009213693952
+  pub apart : TablesApart c.tables
+
+-- what else is said of what was heard
+pub holds_implied : {q r : Logs} {c : Chain} → Implies q r → Holds q c → Holds r c
+holds_implied more h = record { limit = h.limit; apart = h.apart; stands = stands_implied more h.stands; fresh = h.fresh; nodes = h.nodes; tickets = h.tickets }
 
 pub no_node_fits : (x : NodeName) → NodeFits (no_node x)
 no_node_fits x = record { ports = tt; outgoing = tt; apart = tt; owned = tt }
 
-pub node_fits : (c : Chain) → Holds c → (x : NodeName) → NodeFits (node_at c x)
+pub node_fits : {q : Logs} (c : Chain) → Holds q c → (x : NodeName) → NodeFits (node_at c x)
 node_fits c h x = go (find (λ (n : Node). is_node x n.name) c.nodes) refl
   where
     go : (o : Option Node) → find (λ (n : Node). is_node x n.name) c.nodes ≡ o → NodeFits (unwrap_or o (no_node x))
@@ -83,9 +90,9 @@ module _ (c : Chain) (x : NodeName) (m : Node) (name : m.name ≡ x) where
       (find_miss (λ (n : Node). is_node y n.name) (λ (n : Node). is_node m.name n.name) m
       (λ n mine. node_apart y n.name (λ e. ne (e ∙ sym (node_is m.name n.name mine) ∙ name))) (node_apart y m.name (λ e. ne (e ∙ name))) c.nodes)
 
-module _ {t : Contents} {limit : Limits} {air : List (Option Pdu)} where
+module _ {q : Logs} {t : Contents} {limit : Limits} {air : List (Option Pdu)} where
   -- sides stand alike where a node's own sides are put in their place
-  pub put_own : (nodes : List Node) (x : NodeName) → Stands t (view_in nodes) limit air → Stands t (put (view_in nodes) x (side_at (node_in nodes x))) limit air
+  pub put_own : (nodes : List Node) (x : NodeName) → Stands q t (view_in nodes) limit air → Stands q t (put (view_in nodes) x (side_at (node_in nodes x))) limit air
   put_own nodes x s = stands_same _ (λ side name. ap (option_map shown) (same (owner side name) name (cases_node (owner side name) x))) s
     where
       same : (y : NodeName) (q : PortName) → (y ≡ x) ⊎ (y ≡ x → ⊥) → put (view_in nodes) x (side_at (node_in nodes x)) y q ≡ view_in nodes y q
@@ -94,7 +101,7 @@ module _ {t : Contents} {limit : Limits} {air : List (Option Pdu)} where
 
   -- and where a node is set
   pub set_stands : (c : Chain) (x : NodeName) (m was : Node) → m.name ≡ x → find (λ (n : Node). is_node x n.name) c.nodes ≡ Some was
-      → Stands t (put (view c) x (side_at m)) limit air → Stands t (view (set_node c m)) limit air
+      → Stands q t (put (view c) x (side_at m)) limit air → Stands q t (view (set_node c m)) limit air
   set_stands c x m was name there s = stands_same _ (λ side name. ap (option_map shown) (same (owner side name) name (cases_node (owner side name) x))) s
     where
       same : (y : NodeName) (q : PortName) → (y ≡ x) ⊎ (y ≡ x → ⊥) → view (set_node c m) y q ≡ put (view c) x (side_at m) y q
@@ -122,13 +129,14 @@ module _ (test : Node → Bool) where
     | inr fails ↦ cond-false (test x) (Some x) (find test (xs ++ n ∷ ns)) fails ∙ find_shown xs ns n (sym (cond-false (test x) (Some x) (find test xs) fails) ∙ e) is
   ]
 
-module _ (l : RlcLaws) where
+module _ (l : RlcLaws) {q : Logs} where
   -- a node goes on
-  pub goes_set : (c : Chain) (x : NodeName) (m : Node) → Holds c → Goes (node_at c x) m → Holds (set_node c m)
+  pub goes_set : (c : Chain) (x : NodeName) (m : Node) → Holds q c → Goes (node_at c x) m → Holds q (set_node c m)
   goes_set c x m h g = record {
     stands = go (find (λ (n : Node). is_node x n.name) c.nodes) refl;
     nodes = each_replaced NodeFits (λ (n : Node). is_node m.name n.name) m g.fits c.nodes h.nodes;
     limit = h.limit;
+    apart = h.apart;
     fresh = h.fresh;
     tickets = h.tickets;
   }
@@ -136,16 +144,17 @@ module _ (l : RlcLaws) where
       name : m.name ≡ x
       name = g.name ∙ node_name c x
 
-      go : (o : Option Node) → find (λ (n : Node). is_node x n.name) c.nodes ≡ o → Stands c.tables (view (set_node c m)) h.limit c.air
+      go : (o : Option Node) → find (λ (n : Node). is_node x n.name) c.nodes ≡ o → Stands q c.tables (view (set_node c m)) h.limit c.air
       go None is =
           let none : find (λ (n : Node). is_node m.name n.name) c.nodes ≡ None = ap (λ (y : NodeName). find (λ (n : Node). is_node y n.name) c.nodes) name ∙ is in
-          subst (λ (ns : List Node). Stands c.tables (view_in ns) h.limit c.air) (sym (find_none (λ (n : Node). is_node m.name n.name) m c.nodes none)) h.stands
+          subst (λ (ns : List Node). Stands q c.tables (view_in ns) h.limit c.air) (sym (find_none (λ (n : Node). is_node m.name n.name) m c.nodes none)) h.stands
       go (Some was) is = set_stands c x m was name is (node_stands l (view c) x all_seen no_rest g.moves (put_own c.nodes x h.stands))
 
   -- a PDU goes off the air
-  pub off_holds : (c : Chain) (ticket : ℕ) → Holds c → Holds (without ticket c)
+  pub off_holds : (c : Chain) (ticket : ℕ) → Holds q c → Holds q (without ticket c)
   off_holds c ticket h = record {
     limit = h.limit;
+    apart = h.apart;
     fresh = h.fresh;
     stands = stands_off l ticket h.stands;
     nodes = h.nodes;
@@ -155,14 +164,14 @@ module _ (l : RlcLaws) where
 
   module _ (t : Contents) {limit : Limits} {air : List (Option Pdu)} where
     -- a node among others goes on
-    among_goes : (pre ns : List Node) (n m : Node) → Goes n m → Stands t (view_in (pre ++ n ∷ ns)) limit air → Stands t (view_in (pre ++ m ∷ ns)) limit air
+    among_goes : (pre ns : List Node) (n m : Node) → Goes n m → Stands q t (view_in (pre ++ n ∷ ns)) limit air → Stands q t (view_in (pre ++ m ∷ ns)) limit air
     among_goes pre ns n m g s = go (find (λ (x : Node). is_node n.name x.name) pre) refl
       where
         apart : (y : NodeName) → (y ≡ n.name → ⊥) → node_in (pre ++ n ∷ ns) y ≡ node_in (pre ++ m ∷ ns) y
         apart y ne = ap (λ (o : Option Node). unwrap_or o (no_node y))
             (find_skip (λ (x : Node). is_node y x.name) pre ns n m (node_apart y n.name ne) (node_apart y m.name (λ e. ne (e ∙ g.name))))
 
-        go : (o : Option Node) → find (λ (x : Node). is_node n.name x.name) pre ≡ o → Stands t (view_in (pre ++ m ∷ ns)) limit air
+        go : (o : Option Node) → find (λ (x : Node). is_node n.name x.name) pre ≡ o → Stands q t (view_in (pre ++ m ∷ ns)) limit air
         go (Some p) is = stands_same _ (λ side name. ap (λ (x : Node). option_map shown (side_at x name)) (same (owner side name) (cases_node (owner side name) n.name))) s
           where
             hidden : (more : List Node) → node_in (pre ++ more) n.name ≡ p
@@ -173,7 +182,7 @@ module _ (l : RlcLaws) where
             same y (inr ne) = sym (apart y ne)
         go None is = stands_same _ (λ side name. ap (option_map shown) (is_put (owner side name) name (cases_node (owner side name) n.name)))
             (node_stands l (view_in (pre ++ n ∷ ns)) n.name all_seen no_rest g.moves
-            (subst (λ (x : Node). Stands t (put (view_in (pre ++ n ∷ ns)) n.name (side_at x)) limit air) (here n refl) (put_own (pre ++ n ∷ ns) n.name s)))
+            (subst (λ (x : Node). Stands q t (put (view_in (pre ++ n ∷ ns)) n.name (side_at x)) limit air) (here n refl) (put_own (pre ++ n ∷ ns) n.name s)))
           where
             here : (x : Node) → x.name ≡ n.name → node_in (pre ++ x ∷ ns) n.name ≡ x
             here x same = ap (λ (o : Option Node). unwrap_or o (no_node n.name))
@@ -185,18 +194,18 @@ module _ (l : RlcLaws) where
             is_put y q (inr ne) = ap (λ (x : Node). side_at x q) (sym (apart y ne)) ∙ sym (put_other (view_in (pre ++ n ∷ ns)) n.name (side_at m) y q ne)
 
     -- all nodes feed, one behind another
-    feeds_stand : (pre ns : List Node) (given : List Key) (ms : List Node) → AllByRecursion NodeFits ns → FeedsAll t ns given ms → Stands t (view_in (pre ++ ns)) limit air
-        → Stands t (view_in (pre ++ ms)) limit air × AllByRecursion NodeFits ms
-    feeds_stand pre [] given ms fits f s = (subst (λ (ms : List Node). Stands t (view_in (pre ++ ms)) limit air) (sym f.1) s, subst (AllByRecursion NodeFits) (sym f.1) tt)
+    feeds_stand : (pre ns : List Node) (given : List Key) (ms : List Node) → AllByRecursion NodeFits ns → FeedsAll t ns given ms → Stands q t (view_in (pre ++ ns)) limit air
+        → Stands q t (view_in (pre ++ ms)) limit air × AllByRecursion NodeFits ms
+    feeds_stand pre [] given ms fits f s = (subst (λ (ms : List Node). Stands q t (view_in (pre ++ ms)) limit air) (sym f.1) s, subst (AllByRecursion NodeFits) (sym f.1) tt)
     feeds_stand pre (n ∷ ns) given ms fits f s =
         let g = feeds_goes l t n f.2 f.0 fits.0 f.4 in
         let first = among_goes pre ns n f.0 g s in
         let rest = feeds_stand (pre ++ f.0 ∷ []) ns f.3 f.1 fits.1 f.5
-        (subst (λ (xs : List Node). Stands t (view_in xs) limit air) (sym (append_assoc pre (f.0 ∷ []) ns)) first) in (
-          subst (λ (ms : List Node). Stands t (view_in (pre ++ ms)) limit air) (sym f.7)
-              (subst (λ (xs : List Node). Stands t (view_in xs) limit air) (append_assoc pre (f.0 ∷ []) f.1) rest.0),
+        (subst (λ (xs : List Node). Stands q t (view_in xs) limit air) (sym (append_assoc pre (f.0 ∷ []) ns)) first) in (
+          subst (λ (ms : List Node). Stands q t (view_in (pre ++ ms)) limit air) (sym f.7)
+              (subst (λ (xs : List Node). Stands q t (view_in xs) limit air) (append_assoc pre (f.0 ∷ []) f.1) rest.0),
           subst (AllByRecursion NodeFits) (sym f.7) (g.fits, rest.1),
         )
 
-  pub feeds_hold : (c : Chain) (given : List Key) (nodes : List Node) → Holds c → FeedsAll c.tables c.nodes given nodes → Holds (record c { nodes = nodes })
-  feeds_hold c given nodes h f = let fed = feeds_stand c.tables [] c.nodes given nodes h.nodes f h.stands in record { limit = h.limit; fresh = h.fresh; stands = fed.0; nodes = fed.1; tickets = h.tickets }
+  pub feeds_hold : (c : Chain) (given : List Key) (nodes : List Node) → Holds q c → FeedsAll c.tables c.nodes given nodes → Holds q (record c { nodes = nodes })
+  feeds_hold c given nodes h f = let fed = feeds_stand c.tables [] c.nodes given nodes h.nodes f h.stands in record { limit = h.limit; apart = h.apart; fresh = h.fresh; stands = fed.0; nodes = fed.1; tickets = h.tickets }

@@ -7,6 +7,8 @@ use Rattle.link_base.specs.declared.names.Way.{Way}
 use Rattle.link_base.specs.declared.names.Way.TheVariants.{Ul, Dl}
 use Rattle.rlc_model.specs.declared.hop.Pdu.{Pdu}
 use Rattle.rlc_model.specs.Hop.{on_air, off_air}
+use Rattle.rlc_model.specs.Heard.{Data}
+use Rattle.rlc_model.specs.Sides.{flip}
 use Rattle.rlc_law.specs.Hop.{Hop, Event, Give, Grant, GrantStatus, Deliver, DeliverStatus, ExpirePoll, ExpireReassembly, ExpireProhibit, Happens, gives, sends, makes_status, delivers, acknowledges, expires_poll, expires_reassembly, expires_prohibit}
 use Rattle.rlc_law.specs.Ports.{Port, hop_of, Moves}
 
@@ -20,6 +22,17 @@ is_grant (DeliverStatus t) = false
 is_grant ExpirePoll = false
 is_grant ExpireReassembly = false
 is_grant ExpireProhibit = false
+
+-- the event has the receiver hear one
+abbrev pub is_delivery : Event → Bool
+is_delivery (Deliver d) = true
+is_delivery (Give tag sdu) = false
+is_delivery (Grant n) = false
+is_delivery (GrantStatus n) = false
+is_delivery (DeliverStatus t) = false
+is_delivery ExpirePoll = false
+is_delivery ExpireReassembly = false
+is_delivery ExpireProhibit = false
 
 -- no other event makes a data PDU
 happens_same : {old : Hop} {event : Event} {new : Hop} → Happens old event new → is_grant event ≡ false → length new.pdus ≡ length old.pdus
@@ -43,6 +56,25 @@ happens_most (expires_poll marks t x) = omega arith
 happens_most (expires_reassembly r x) = omega arith
 happens_most (expires_prohibit r x) = omega arith
 
+-- no event but a delivery adds to what was heard
+happens_heard : {old : Hop} {event : Event} {new : Hop} → Happens old event new → is_delivery event ≡ false → new.heard ≡ old.heard
+happens_heard (gives number t some most g) e = refl
+happens_heard (sends m v t s) e = refl
+happens_heard (makes_status a s r w) e = refl
+happens_heard (delivers answer r among fresh h) e = absurd (true≢false e)
+happens_heard (acknowledges answer x among fresh h) e = refl
+happens_heard (expires_poll marks t x) e = refl
+happens_heard (expires_reassembly r x) e = refl
+happens_heard (expires_prohibit r x) e = refl
+
+-- and that one adds the PDU delivered
+delivery_adds : {old : Hop} {d : Data} {new : Hop} → Happens old (Deliver d) new → new.heard ≡ d ∷ old.heard
+delivery_adds (delivers answer r among fresh h) = refl
+
+-- and leaves the SDUs given
+delivery_leaves : {old : Hop} {d : Data} {new : Hop} → Happens old (Deliver d) new → new.given ≡ old.given
+delivery_leaves (delivers answer r among fresh h) = refl
+
 -- where a port moves, its other hop stays as it was
 module _ {old : Port} {event : Event} {new : Port} where
   moves_within : (k : ℕ) (way : Way) → Moves old way event new → length (hop_of new way).pdus ≤ length (hop_of old way).pdus + k → (w : Way)
@@ -57,6 +89,23 @@ module _ {old : Port} {event : Event} {new : Port} where
 
   pub moves_most : (way : Way) → Moves old way event new → (w : Way) → length (hop_of new w).pdus ≤ length (hop_of old w).pdus + 1
   moves_most way m = moves_within 1 way m (happens_most m.happens)
+
+-- what the receivers of a port have heard behind a move
+module _ {old : Port} {new : Port} where
+  pub moves_heard : {event : Event} (way : Way) → Moves old way event new → is_delivery event ≡ false → (w : Way) → (hop_of new w).heard ≡ (hop_of old w).heard
+  moves_heard Ul m e Ul = happens_heard m.happens e
+  moves_heard Dl m e Dl = happens_heard m.happens e
+  moves_heard Ul m e Dl = ap (λ (h : Hop). h.heard) m.other
+  moves_heard Dl m e Ul = ap (λ (h : Hop). h.heard) m.other
+
+  pub delivery_heard : {d : Data} (way : Way) → Moves old way (Deliver d) new → (hop_of new way).heard ≡ d ∷ (hop_of old way).heard
+  delivery_heard way m = delivery_adds m.happens
+
+  pub delivery_given : {d : Data} (way : Way) → Moves old way (Deliver d) new → (hop_of new way).given ≡ (hop_of old way).given
+  delivery_given way m = delivery_leaves m.happens
+
+  pub delivery_other : {d : Data} (way : Way) → Moves old way (Deliver d) new → (hop_of new (flip way)).heard ≡ (hop_of old (flip way)).heard
+  delivery_other way m = ap (λ (h : Hop). h.heard) m.other
 
 -- what is at a place behind one more is that one, or was there
 pub place_more : {T : Type 0} (air : List (Option T)) (pdu other : T) (n : ℕ) → get_or (air ++ Some pdu ∷ []) n None ≡ Some other → (get_or air n None ≡ Some other) ⊎ (other ≡ pdu)

@@ -21,9 +21,10 @@ use Rattle.chain_law.proofs.Chains.{Holds, node_fits, node_name, node_there, nod
 use Rattle.chain_law.proofs.Hearing.{leaves_well}
 use Rattle.chain_law.proofs.Nodes.{ParcelFits, side_fits, side_set, outgoing_fits}
 use Rattle.chain_law.proofs.Opened.{opened_holds}
-use Rattle.chain_law.proofs.Runs.{does_hold, step_holds, comes_keep}
+use Rattle.chain_law.proofs.Runs.{nothing_into, does_hold, step_holds, comes_keep}
+use Rattle.chain_law.proofs.Stands.{Logs, nothing_said}
 
-rlc_fits : (c : Chain) → Holds c → RlcFits c
+pub rlc_fits : {q : Logs} (c : Chain) → Holds q c → RlcFits c
 rlc_fits c h = record {
   ports = h.stands.ports;
   epochs = h.stands.epochs;
@@ -35,8 +36,10 @@ rlc_fits c h = record {
 }
 
 -- what holds of each chain that comes up
-pub comes_hold : (l : RlcLaws) {c : Chain} → ComesUp c → Holds c
-comes_hold l = comes_keep Holds opened_holds (step_holds l) (does_hold l)
+pub comes_hold : (l : RlcLaws) {c : Chain} → ComesUp c → Holds nothing_said c
+comes_hold l = comes_keep (Holds nothing_said) (λ t. opened_holds t (λ name epoch way. tt))
+    (λ old line events reply new h s. step_holds l old line events reply new (nothing_into old line) h s)
+    (λ old line events reply new h d. does_hold l old line events reply new (nothing_into old line) h d)
 
 pub entities_are_those_of_ports : RlcLaws → EntitiesAreThoseOfPorts
 entities_are_those_of_ports l c up = rlc_fits c (comes_hold l up)
@@ -49,7 +52,7 @@ numbers_stay_within_tickets l c up side name e is = record {
   tickets = holds.tickets;
 }
   where
-    holds : Holds c
+    holds : Holds nothing_said c
     holds = comes_hold l up
 
     its : (port : Port) × (holds.stands.ports name e.epoch ≡ Some port) × Rattle.rlc_law.specs.Ports.IsSide port side e.tx e.rx

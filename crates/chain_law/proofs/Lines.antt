@@ -49,9 +49,9 @@ use Rattle.chain_model.specs.Lines.{Unless, Submits, grant_refusal, Granted, Sen
 use Rattle.chain_law.specs.Entities.{next_epoch}
 use Rattle.node_model.proofs.Names.{remote_is, remote_refl, remote_apart, cases_remote}
 use Rattle.node_model.proofs.Finding.{find_passes, find_hit, find_miss, each_replaced, each_append}
-use Rattle.chain_law.proofs.Counting.{place_more, moves_most, is_grant}
+use Rattle.chain_law.proofs.Counting.{place_more, moves_most, is_delivery}
 use Rattle.chain_law.specs.Foundations.{RlcLaws}
-use Rattle.chain_law.proofs.Stands.{Stands, Moved, stays, moves, put, put_here, put_changes, stands_sent, all_seen, no_rest}
+use Rattle.chain_law.proofs.Stands.{Logs, Stands, Moved, stays, moves, is_quiet, put, put_here, put_changes, stands_sent, all_seen, no_rest}
 use Rattle.chain_law.proofs.Nodes.{NodeFits, SideFits, SenderFits, ParcelFits, outgoing_fits, side_fits, called_fits, fits_side, side_set, Goes, goes_nowhere, goes_on, goes_outgoing, goes_incoming, goes_changed, goes_called, goes_called_as}
 use Rattle.chain_law.proofs.Chains.{Holds, view, node_fits, node_name, node_there, put_own, set_stands, goes_set, off_holds}
 
@@ -61,9 +61,9 @@ pub unless_keeps : (P : Chain → Type 0) (refusal : Option Reply) (old : Chain)
 unless_keeps P (Some r) old events reply new done h goes u = subst P (sym u.2) h
 unless_keeps P None old events reply new done h goes u = goes refl u
 
-pub unless_holds : (refusal : Option Reply) (old : Chain) (events : List Event) (reply : Reply) (new : Chain) (done : Type 0) → Holds old → (refusal ≡ None → done → Holds new)
-    → Unless refusal old events reply new done → Holds new
-unless_holds = unless_keeps Holds
+pub unless_holds : {q : Logs} (refusal : Option Reply) (old : Chain) (events : List Event) (reply : Reply) (new : Chain) (done : Type 0) → Holds q old → (refusal ≡ None → done → Holds q new)
+    → Unless refusal old events reply new done → Holds q new
+unless_holds {q} = unless_keeps (Holds q)
 
 -- an SDU that a sender doesn't refuse is one that PDCP can take
 no_fault : (s : Sender) (sdu : List ℕ) → submit_fault s sdu ≡ None → IsBody sdu
@@ -108,25 +108,30 @@ sends_its_way : (way : Way) → way_from (sender_of way) ≡ way
 sends_its_way Ul = refl
 sends_its_way Dl = refl
 
-expiry_quiet : (timer : Timer) → is_grant (expiring timer) ≡ false
+expiry_quiet : (timer : Timer) → is_quiet (expiring timer) ≡ true
 expiry_quiet Poll = refl
 expiry_quiet Reasm = refl
 expiry_quiet Prohibit = refl
 
+-- a grant has the receiver hear no data PDU
+granting_silent : (status : Bool) (octets : ℕ) → is_delivery (granting status octets) ≡ false
+granting_silent true octets = refl
+granting_silent false octets = refl
+
 module _ (l : RlcLaws) where
-  pub submits_hold : (old : Chain) (key : Key) (sdu : List ℕ) (events : List Event) (reply : Reply) (new : Chain) → Holds old
-      → Submits (submit_fault (sender_at old key) sdu) old key sdu events reply new → Holds new
-  submits_hold old key sdu events reply new h = go (submit_fault (sender_at old key) sdu) refl
+  pub submits_hold : {q : Logs} (old : Chain) (key : Key) (sdu : List ℕ) (events : List Event) (reply : Reply) (new : Chain) → Holds q old
+      → Submits (submit_fault (sender_at old key) sdu) old key sdu events reply new → Holds q new
+  submits_hold {q} old key sdu events reply new h = go (submit_fault (sender_at old key) sdu) refl
     where
-      go : (fault : Option SubmitFault) → submit_fault (sender_at old key) sdu ≡ fault → Submits fault old key sdu events reply new → Holds new
-      go (Some fault) is s = subst Holds (sym s.2) h
-      go None is s = subst Holds (sym s.2) (goes_set l old (source key) _ h
+      go : (fault : Option SubmitFault) → submit_fault (sender_at old key) sdu ≡ fault → Submits fault old key sdu events reply new → Holds q new
+      go (Some fault) is s = subst (Holds _) (sym s.2) h
+      go None is s = subst (Holds _) (sym s.2) (goes_set l old (source key) _ h
           (goes_outgoing (node_at old (source key)) (record (outgoing (node_at old (source key)) key) { sender = accepts (sender_at old key) sdu }) (node_fits old h (source key))
           (accepted_fits (sender_at old key) sdu (outgoing_fits (node_at old (source key)) key (node_fits old h (source key))) (no_fault (sender_at old key) sdu is))))
 
-  pub granted_holds : (old : Chain) (port : PortName) (way : Way) (octets : ℕ) (events : List Event) (reply : Reply) (new : Chain) → Holds old
-      → grant_refusal old port way ≡ None → Granted old port way octets events reply new → Holds new
-  granted_holds old port way octets events reply new h none g = by g.answer (sender_sends g.answer g.grants.grants) g.sends
+  pub granted_holds : {q : Logs} (old : Chain) (port : PortName) (way : Way) (octets : ℕ) (events : List Event) (reply : Reply) (new : Chain) → Holds q old
+      → grant_refusal old port way ≡ None → Granted old port way octets events reply new → Holds q new
+  granted_holds {q} old port way octets events reply new h none g = by g.answer (sender_sends g.answer g.grants.grants) g.sends
     where
       n : Node
       n = node_at old (owner (sender_of way) port)
@@ -140,7 +145,7 @@ module _ (l : RlcLaws) where
       now : PortSide
       now = record side { entity = Some (record entity { tx = g.grants.tx; rx = g.grants.rx }) }
 
-      s : Stands old.tables (put (view old) (owner (sender_of way) port) (side_at n)) h.limit old.air
+      s : Stands q old.tables (put (view old) (owner (sender_of way) port) (side_at n)) h.limit old.air
       s = put_own old.nodes (owner (sender_of way) port) h.stands
 
       there : put (view old) (owner (sender_of way) port) (side_at n) (owner (sender_of way) port) port ≡ Some side
@@ -153,15 +158,16 @@ module _ (l : RlcLaws) where
           → GrantLeaves its.0 (sender_of way) octets answer g.grants.tx g.grants.rx
       sender_sends answer gr = l.grant_moves its.0 (sender_of way) entity.tx entity.rx its.2 octets answer g.grants.tx g.grants.rx gr
 
-      by : (answer : HopGrant) → GrantLeaves its.0 (sender_of way) octets answer g.grants.tx g.grants.rx → Sends old g.node port way g.epoch answer reply new → Holds new
-      by (grant.Sent status number bytes) made sent = subst Holds (sym sent.1) (record {
-        stands = subst (λ (epoch : ℕ). Stands old.tables (view (set_node old g.node)) h.limit (old.air ++ Some (sent_from port (sender_of way) epoch status number bytes) ∷ []))
+      by : (answer : HopGrant) → GrantLeaves its.0 (sender_of way) octets answer g.grants.tx g.grants.rx → Sends old g.node port way g.epoch answer reply new → Holds q new
+      by (grant.Sent status number bytes) made sent = subst (Holds _) (sym sent.1) (record {
+        stands = subst (λ (epoch : ℕ). Stands q old.tables (view (set_node old g.node)) h.limit (old.air ++ Some (sent_from port (sender_of way) epoch status number bytes) ∷ []))
             (sym g.grants.its_epoch)
-            (subst (λ (m : Node). Stands old.tables (view (set_node old m)) h.limit (old.air ++ Some (sent_from port (sender_of way) entity.epoch status number bytes) ∷ []))
+            (subst (λ (m : Node). Stands q old.tables (view (set_node old m)) h.limit (old.air ++ Some (sent_from port (sender_of way) entity.epoch status number bytes) ∷ []))
             (sym g.grants.is)
             (set_stands old (owner (sender_of way) port) behind n (node_name old (owner (sender_of way) port))
             (node_there old (owner (sender_of way) port) port side g.grants.its.here) on_air));
         limit = h.limit;
+        apart = h.apart;
         fresh = h.fresh;
         nodes = each_replaced NodeFits _ g.node
             (subst NodeFits (sym g.grants.is)
@@ -173,22 +179,22 @@ module _ (l : RlcLaws) where
           behind : Node
           behind = Rattle.node_model.specs.State.set_side n now
 
-          on_air : Stands old.tables (put (view old) (owner (sender_of way) port) (side_at behind)) h.limit
+          on_air : Stands q old.tables (put (view old) (owner (sender_of way) port) (side_at behind)) h.limit
               (old.air ++ Some (sent_from port (sender_of way) entity.epoch status number bytes) ∷ [])
           on_air = stands_sent l s (sender_of way) port side now entity g.grants.tx g.grants.rx there g.grants.its.is_open refl refl
               (put (view old) (owner (sender_of way) port) (side_at behind))
               (put_changes all_seen no_rest n behind (view old) (owner (sender_of way) port) (sender_of way) port now refl refl (side_set n port side now g.grants.its.here refl))
-              its.0 its.1 (about status (way_from (sender_of way))) (granting status octets) made.behind made.moves
+              its.0 its.1 (about status (way_from (sender_of way))) (granting status octets) made.behind made.moves (granting_silent status octets)
               (moves_most (about status (way_from (sender_of way))) made.moves.moves) status number bytes made.made
-      by grant.Idle made sent = subst Holds (sym sent.1) h
-      by (grant.Small need) made sent = subst Holds (sym sent.1) h
+      by grant.Idle made sent = subst (Holds _) (sym sent.1) h
+      by (grant.Small need) made sent = subst (Holds _) (sym sent.1) h
 
-  pub loses_hold : (old : Chain) (pdu : Option Pdu) (ticket : ℕ) (events : List Event) (reply : Reply) (new : Chain) → Holds old → Loses old pdu ticket events reply new → Holds new
-  loses_hold old None ticket events reply new h x = subst Holds (sym x.2) h
-  loses_hold old (Some pdu) ticket events reply new h x = subst Holds (sym x.2) (off_holds l old ticket h)
+  pub loses_hold : {q : Logs} (old : Chain) (pdu : Option Pdu) (ticket : ℕ) (events : List Event) (reply : Reply) (new : Chain) → Holds q old → Loses old pdu ticket events reply new → Holds q new
+  loses_hold old None ticket events reply new h x = subst (Holds _) (sym x.2) h
+  loses_hold old (Some pdu) ticket events reply new h x = subst (Holds _) (sym x.2) (off_holds l old ticket h)
 
-  pub stages_hold : (old : Chain) (ticket : ℕ) (events : List Event) (reply : Reply) (new : Chain) → Holds old → Stages old ticket events reply new → Holds new
-  stages_hold old ticket events reply new h x = subst Holds (sym x.2) (record { limit = h.limit; fresh = h.fresh; stands = h.stands; nodes = h.nodes; tickets = h.tickets })
+  pub stages_hold : {q : Logs} (old : Chain) (ticket : ℕ) (events : List Event) (reply : Reply) (new : Chain) → Holds q old → Stages old ticket events reply new → Holds q new
+  stages_hold old ticket events reply new h x = subst (Holds _) (sym x.2) (record { limit = h.limit; apart = h.apart; fresh = h.fresh; stands = h.stands; nodes = h.nodes; tickets = h.tickets })
 
   -- a timer of a side runs out
   expires_goes : (old : Node) (port : PortName) (timer : Timer) (expired : Expired) (new : Node) → NodeFits old → ExpiresSide old port timer expired new → Goes old new
@@ -202,9 +208,9 @@ module _ (l : RlcLaws) where
       mover : (at : Side) (p : Port) → IsSide p at x.entity.tx x.entity.rx → Moved p at x.tx x.rx
       mover at p is = by at p expired (l.expire_moves p at x.entity.tx x.entity.rx is timer expired x.tx x.rx x.expires)
 
-  pub expires_hold : (old : Chain) (port : PortName) (at : Side) (timer : Timer) (events : List Event) (reply : Reply) (new : Chain) → Holds old
-      → Expires old port at timer events reply new → Holds new
-  expires_hold old port at timer events reply new h x = subst Holds (sym x.is)
+  pub expires_hold : {q : Logs} (old : Chain) (port : PortName) (at : Side) (timer : Timer) (events : List Event) (reply : Reply) (new : Chain) → Holds q old
+      → Expires old port at timer events reply new → Holds q new
+  expires_hold old port at timer events reply new h x = subst (Holds _) (sym x.is)
       (goes_set l old (owner at port) x.node h (expires_goes (node_at old (owner at port)) port timer x.expired x.node (node_fits old h (owner at port)) x.expires))
 
   -- an SDU goes from a slot to a queue
@@ -223,8 +229,8 @@ module _ (l : RlcLaws) where
   push_goes capacity old port pushed.Nothing new fits p = goes_nowhere old new fits p.1
   push_goes capacity old port pushed.QueueFull new fits p = goes_nowhere old new fits p.1
 
-  pub pushes_hold : (old : Chain) (port : PortName) (events : List Event) (reply : Reply) (new : Chain) → Holds old → PushesAt old port events reply new → Holds new
-  pushes_hold old port events reply new h p = subst Holds (sym p.is)
+  pub pushes_hold : {q : Logs} (old : Chain) (port : PortName) (events : List Event) (reply : Reply) (new : Chain) → Holds q old → PushesAt old port events reply new → Holds q new
+  pushes_hold old port events reply new h p = subst (Holds _) (sym p.is)
       (goes_set l old AtRelay p.node h (push_goes (queue_capacity old) (node_at old AtRelay) port p.answer p.node (node_fits old h AtRelay) p.pushes))
 
   -- an SDU goes from a queue to its transmitter
@@ -251,12 +257,12 @@ module _ (l : RlcLaws) where
   pull_goes old port pulled.Empty new fits p = goes_nowhere old new fits p.1
   pull_goes old port pulled.Stalled new fits p = goes_nowhere old new fits p.1
 
-  pub pulls_hold : (old : Chain) (port : PortName) (events : List Event) (reply : Reply) (new : Chain) → Holds old → PullsAt old port events reply new → Holds new
-  pulls_hold old port events reply new h p = subst Holds (sym p.is)
+  pub pulls_hold : {q : Logs} (old : Chain) (port : PortName) (events : List Event) (reply : Reply) (new : Chain) → Holds q old → PullsAt old port events reply new → Holds q new
+  pulls_hold old port events reply new h p = subst (Holds _) (sym p.is)
       (goes_set l old AtRelay p.node h (pull_goes (node_at old AtRelay) port p.answer p.node (node_fits old h AtRelay) p.pulls))
 
-  pub wants_hold : (old : Chain) (key : Key) (events : List Event) (reply : Reply) (new : Chain) → Holds old → Wants old key events reply new → Holds new
-  wants_hold old key events reply new h w = subst Holds (sym w.2)
+  pub wants_hold : {q : Logs} (old : Chain) (key : Key) (events : List Event) (reply : Reply) (new : Chain) → Holds q old → Wants old key events reply new → Holds q new
+  wants_hold old key events reply new h w = subst (Holds _) (sym w.2)
       (goes_set l old (sink key) _ h (goes_incoming (node_at old (sink key)) (record (receiving_at old key) { wanted = true }) (node_fits old h (sink key))))
 
 -- a plan that is set is the last one of its remote, and those of the others are as before
@@ -297,9 +303,10 @@ next_later last goal kind = go (has_applied last kind) kind
     go true kind = omega (arith, none kind)
     go false kind = omega (arith, none kind)
 
-pub plans_hold : (old : Chain) (remote : Remote) (goal : Goal) (events : List Event) (reply : Reply) (new : Chain) → Holds old → Plans old remote goal events reply new → Holds new
-plans_hold old remote goal events reply new h p = subst Holds (sym p.is) (record {
+pub plans_hold : {q : Logs} (old : Chain) (remote : Remote) (goal : Goal) (events : List Event) (reply : Reply) (new : Chain) → Holds q old → Plans old remote goal events reply new → Holds q new
+plans_hold old remote goal events reply new h p = subst (Holds _) (sym p.is) (record {
   limit = h.limit;
+  apart = h.apart;
   stands = h.stands;
   fresh = λ r q is side name of. elim (plan_was old remote p.last (next_plan p.last goal) p.its refl r q is) [
     | inl this ↦ subst (λ (q : Plan). h.limit side name ≤ next_epoch q (kind_of (owner side name))) (sym this.1)

@@ -9,12 +9,12 @@ use Rattle.rlc_model.specs.declared.hop.Pdu.{Pdu}
 use Rattle.node_model.specs.Names.{NodeName, is_port}
 use Rattle.node_model.specs.State.{PortSide, Node, side_at}
 use Rattle.node_model.proofs.Names.{cases_port, port_apart, port_refl}
-use Rattle.chain_law.proofs.Stands.{View, Limits, Stands, shown, put, put_alike, stands_same}
+use Rattle.chain_law.proofs.Stands.{View, Limits, Logs, Implies, Stands, stands_implied, shown, put, put_alike, stands_same}
 use Rattle.chain_law.proofs.Nodes.{port_of}
 
 -- sides stand with higher limits too
-pub stands_higher : {t : Contents} {view : View} {limit : Limits} {air : List (Option Pdu)} (higher : Limits)
-    → ((side : Side) (name : PortName) → limit side name ≤ higher side name) → Stands t view limit air → Stands t view higher air
+pub stands_higher : {q : Logs} {t : Contents} {view : View} {limit : Limits} {air : List (Option Pdu)} (higher : Limits)
+    → ((side : Side) (name : PortName) → limit side name ≤ higher side name) → Stands q t view limit air → Stands q t view higher air
 stands_higher higher le s = record {
   ports = s.ports;
   epochs = s.epochs;
@@ -24,6 +24,7 @@ stands_higher higher le s = record {
   few = s.few;
   within = λ side name. omega (arith, s.within side name, le side name);
   sizes = s.sizes;
+  heard = s.heard;
 }
 
 -- a side that isn't among the names of all isn't there
@@ -46,21 +47,22 @@ module _ (n m : Node) where
   pub mixed_this : (p : PortName) (names : List PortName) → mixed (p ∷ names) p ≡ side_at m p
   mixed_this p names = ap (λ (b : Bool). cond (b || list_any (is_port p) names) (side_at m p) (side_at n p)) (port_refl p)
 
-  module _ {t : Contents} {air : List (Option Pdu)} (v : View) (x : NodeName) (limits : List PortName → Limits)
+  module _ {t : Contents} {air : List (Option Pdu)} (v : View) (x : NodeName) (limits : List PortName → Limits) (logs : List PortName → Logs)
       (up : (p : PortName) (names : List PortName) (side : Side) (q : PortName) → limits names side q ≤ limits (p ∷ names) side q)
-      (one : (p : PortName) (names : List PortName) → list_any (is_port p) names ≡ false → Stands t (put v x (mixed names)) (limits names) air
-      → Stands t (put v x (mixed (p ∷ names))) (limits (p ∷ names)) air) where
+      (said_so : (p : PortName) (names : List PortName) → list_any (is_port p) names ≡ true → Implies (logs names) (logs (p ∷ names)))
+      (one : (p : PortName) (names : List PortName) → list_any (is_port p) names ≡ false → Stands (logs names) t (put v x (mixed names)) (limits names) air
+      → Stands (logs (p ∷ names)) t (put v x (mixed (p ∷ names))) (limits (p ∷ names)) air) where
     -- a name that stands there twice changes nothing more
-    once_more : (p : PortName) (names : List PortName) → list_any (is_port p) names ≡ true → Stands t (put v x (mixed names)) (limits names) air
-        → Stands t (put v x (mixed (p ∷ names))) (limits (p ∷ names)) air
+    once_more : (p : PortName) (names : List PortName) → list_any (is_port p) names ≡ true → Stands (logs names) t (put v x (mixed names)) (limits names) air
+        → Stands (logs (p ∷ names)) t (put v x (mixed (p ∷ names))) (limits (p ∷ names)) air
     once_more p names again s = stands_higher (limits (p ∷ names)) (up p names)
-        (stands_same _ (put_alike v x (mixed names) (mixed (p ∷ names)) (λ q own. ap (option_map shown) (same q (cases_port q p)))) s)
+        (stands_implied (said_so p names again) (stands_same _ (put_alike v x (mixed names) (mixed (p ∷ names)) (λ q own. ap (option_map shown) (same q (cases_port q p)))) s))
       where
         same : (q : PortName) → (q ≡ p) ⊎ (q ≡ p → ⊥) → mixed (p ∷ names) q ≡ mixed names q
         same q (inr ne) = mixed_other p names q ne
         same q (inl e) = ap (mixed (p ∷ names)) e ∙ mixed_this p names ∙ sym (cond-true (list_any (is_port p) names) (side_at m p) (side_at n p) again) ∙ ap (mixed names) (sym e)
 
-    all_names : (names : List PortName) → Stands t (put v x (side_at n)) (limits []) air → Stands t (put v x (mixed names)) (limits names) air
+    all_names : (names : List PortName) → Stands (logs []) t (put v x (side_at n)) (limits []) air → Stands (logs names) t (put v x (mixed names)) (limits names) air
     all_names [] s = s
     all_names (p ∷ names) s = elim (cases_Bool (list_any (is_port p) names)) [
       | inl again ↦ once_more p names again (all_names names s)
@@ -68,8 +70,8 @@ module _ (n m : Node) where
     ]
 
     -- all have
-    pub all_mixed : ((q : PortName) → side_at n q ≡ None → side_at m q ≡ None) → Stands t (put v x (side_at n)) (limits []) air
-        → Stands t (put v x (side_at m)) (limits (map port_of n.ports)) air
+    pub all_mixed : ((q : PortName) → side_at n q ≡ None → side_at m q ≡ None) → Stands (logs []) t (put v x (side_at n)) (limits []) air
+        → Stands (logs (map port_of n.ports)) t (put v x (side_at m)) (limits (map port_of n.ports)) air
     all_mixed none s = stands_same _ (put_alike v x (mixed names) (side_at m) (λ q own. ap (option_map shown) (sym (whole q (cases_Bool (list_any (is_port q) names))))))
         (all_names names s)
       where

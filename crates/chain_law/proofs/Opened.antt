@@ -37,12 +37,12 @@ use Rattle.chain_model.specs.Sizes.{direct_size, pc5_size, uu_size, port_size}
 use Rattle.chain_law.specs.Entities.{port_settings, next_epoch}
 use Rattle.node_model.proofs.Names.{port_is, remote_is}
 use Rattle.node_model.proofs.Finding.{find_passes, find_append, find_flat, find_map, find_picked, each_found, each_append, each_made, each_map, each_flat}
-use Rattle.chain_law.proofs.Stands.{Stands, sides_of}
+use Rattle.chain_law.proofs.Stands.{Logs, Stands, heard_in, sides_of}
 use Rattle.chain_law.proofs.Nodes.{NodeFits, SideFits, OutgoingFits, port_of, Differ, IsOwned}
 use Rattle.chain_law.proofs.Pairs.{Pairwise, pairs_append, pairs_picked, pairs_map, pairs_flat, ascending_pairs, each_passes, each_then, each_to_each}
 use Rattle.chain_law.proofs.Tables.{TablesApart}
 use Rattle.chain_law.proofs.Chains.{Holds, view}
-use Rattle.chain_law.proofs.Applying.{start_is, one_remote}
+use Rattle.chain_law.proofs.Applying.{start_is, start_heard, one_remote}
 
 -- a side at the start has the size of its port, and is closed or has the entity of the start
 pub record IsNew (t : Contents) (name : PortName) (s : PortSide) : Type 0 where
@@ -357,8 +357,16 @@ module _ (t : Contents) where
         | inr some ↦ sym (start_is t name side 0) ∙ ap (λ (size : SnSize). new_entity (settings t) size 0) (sym new.size) ∙ same_Some _ e (sym some ∙ s.2)
       ]
 
-  opened_stands : Stands t (view (opened t)) (λ side name. 1) []
-  opened_stands = record {
+  first_heard : (name : PortName) (epoch : ℕ) (way : Way) → heard_in (first_ports name epoch) way ≡ []
+  first_heard name epoch way = by (first_ports name epoch) refl
+    where
+      by : (o : Option Port) → first_ports name epoch ≡ o → heard_in (first_ports name epoch) way ≡ []
+      by None is = ap (λ (o : Option Port). heard_in o way) is
+      by (Some port) is = ap (λ (o : Option Port). heard_in o way) is ∙ ap (λ (p : Port). (hop_of p way).heard) (is_first name epoch port is).1
+          ∙ start_heard (port_settings t name) way
+
+  opened_stands : {q : Logs} → ((name : PortName) (epoch : ℕ) (way : Way) → q name epoch way []) → Stands q t (view (opened t)) (λ side name. 1) []
+  opened_stands {q} none = record {
     ports = first_ports;
     epochs = λ side name. 1;
     fits = record {
@@ -376,6 +384,7 @@ module _ (t : Contents) where
     few = λ name epoch port way is. subst (λ (p : Port). length (hop_of p way).pdus ≤ 0) (sym (is_first name epoch port is).1) (start_few name way);
     within = λ side name. omega arith;
     sizes = λ side name s is. (side_new (owner side name) name s is).size;
+    heard = λ name epoch way. subst (q name epoch way) (sym (first_heard name epoch way)) (none name epoch way);
   }
 
   -- a plan at the start has no epoch behind it but 0
@@ -387,12 +396,14 @@ module _ (t : Contents) where
   first_is row kinds.Relay = omega arith
   first_is row kinds.Gnb = omega arith
 
-  pub opened_holds : TablesApart t → Holds (opened t)
-  opened_holds a = record {
+  -- nothing was heard yet
+  pub opened_holds : {q : Logs} → ((name : PortName) (epoch : ℕ) (way : Way) → q name epoch way []) → TablesApart t → Holds q (opened t)
+  opened_holds none a = record {
     limit = λ side name. 1;
-    stands = opened_stands;
+    stands = opened_stands none;
     fresh = λ remote plan is side name of. each_found IsFirstPlan (λ (p : Plan). is_remote remote p.remote) (opened t).plans plan
         (each_made IsFirstPlan first_plan first_is t.remotes) is _;
     nodes = nodes_fit a;
+    apart = a;
     tickets = omega arith;
   }

@@ -1,6 +1,6 @@
 -- What holds of the sides of ports that nodes have, and what keeps it: a call of one side, and whatever leaves the entities as they are.
-use Rattle.std.proofs.Common.{◌≡◌, ◌⊎◌, inl, inr, ℕ, ◌+◌, ◌≤◌, Bool, true, false, cond, List, [], ◌∷◌, ◌++◌, length, Option, Some, None, option_map, option_and_then, refl, sym, ◌∙◌, ap, subst, arith}
-use Rattle.std.proofs.lemmas.Bool.{cases_Bool, cases_eq, cond-true, cond-false}
+use Rattle.std.proofs.Common.{◌≡◌, ◌⊎◌, inl, inr, ℕ, ◌+◌, ◌≤◌, Bool, true, false, cond, not, ◌&&◌, List, [], ◌∷◌, ◌++◌, length, Option, Some, None, option_map, option_and_then, refl, sym, ◌∙◌, ap, subst, arith}
+use Rattle.std.proofs.lemmas.Bool.{cases_Bool, cases_eq, cond-true, cond-false, false≢true, and_parts}
 use Rattle.std.proofs.lemmas.Option.{none-some, same_Some}
 use Rattle.std.proofs.lemmas.List.{length_push}
 use Rattle.link_base.specs.declared.names.SnSize.{SnSize}
@@ -13,6 +13,7 @@ use Rattle.rlc_model.specs.Hop.{on_air, off_air, sent_from}
 use Rattle.rlc_model.specs.Rx.{Rx}
 use Rattle.rlc_model.specs.Sides.{Entity, way_from}
 use Rattle.rlc_model.specs.Tx.{Tx}
+use Rattle.rlc_model.specs.Heard.{Data}
 use Rattle.rlc_law.specs.Hop.{Event}
 use Rattle.rlc_law.specs.Ports.{Port, Ports, hop_of, HasMade, MovesSide, IsSide, Changes, PortsFit, goes_off}
 use Rattle.rlc_law.specs.Sides.{Sides, Epochs, SidesFit}
@@ -21,7 +22,7 @@ use Rattle.node_model.specs.State.{PortSide, Node, side_at, entity_of}
 use Rattle.chain_model.specs.Sizes.{port_size}
 use Rattle.chain_law.specs.Entities.{port_settings}
 use Rattle.node_model.proofs.Names.{cases_node, cases_port, cases_owner, owner_side, node_refl, node_apart}
-use Rattle.chain_law.proofs.Counting.{is_grant, moves_same, air_more, air_less, air_long}
+use Rattle.chain_law.proofs.Counting.{is_grant, is_delivery, moves_same, moves_heard, air_more, air_less, air_long}
 use Rattle.chain_law.specs.Foundations.{RlcLaws}
 
 -- the side of each port at each node
@@ -36,8 +37,25 @@ sides_of view side name = option_and_then entity_of (view (owner side name) name
 abbrev pub Limits : Type 0
 Limits = Side → PortName → ℕ
 
--- the RLC of sides of ports, with the tables, limits of epochs and the air
-pub record Stands (t : Contents) (view : View) (limit : Limits) (air : List (Option Pdu)) : Type 0 where
+-- the data PDUs that the receiver of a way of a port has heard, and none where there is no port
+abbrev pub heard_in : Option Port → Way → List Data
+heard_in None way = []
+heard_in (Some port) way = (hop_of port way).heard
+
+-- what is said of the data PDUs that were heard of a port in an epoch, in each way
+abbrev pub Logs : Type 1
+Logs = PortName → ℕ → Way → List Data → Type 0
+
+-- nothing is said of them
+abbrev pub nothing_said : Logs
+nothing_said name epoch way heard = Unit {0}
+
+-- what one says of them the other says too
+abbrev pub Implies : Logs → Logs → Type 0
+Implies q r = (name : PortName) (epoch : ℕ) (way : Way) (heard : List Data) → q name epoch way heard → r name epoch way heard
+
+-- the RLC of sides of ports, with what is said of what they heard, the tables, limits of epochs and the air
+pub record Stands (q : Logs) (t : Contents) (view : View) (limit : Limits) (air : List (Option Pdu)) : Type 0 where
   pub ports : Ports
   pub epochs : Epochs
   pub fits : PortsFit ports air
@@ -46,6 +64,21 @@ pub record Stands (t : Contents) (view : View) (limit : Limits) (air : List (Opt
   pub few : (name : PortName) (epoch : ℕ) (port : Port) (way : Way) → ports name epoch ≡ Some port → length (hop_of port way).pdus ≤ length air
   pub within : (side : Side) (name : PortName) → epochs side name ≤ limit side name
   pub sizes : (side : Side) (name : PortName) (s : PortSide) → view (owner side name) name ≡ Some s → s.size ≡ port_size t name
+  pub heard : (name : PortName) (epoch : ℕ) (way : Way) → q name epoch way (heard_in (ports name epoch) way)
+
+-- what else is said of what was heard
+pub stands_implied : {q r : Logs} {t : Contents} {view : View} {limit : Limits} {air : List (Option Pdu)} → Implies q r → Stands q t view limit air → Stands r t view limit air
+stands_implied more s = record {
+  ports = s.ports;
+  epochs = s.epochs;
+  fits = s.fits;
+  opened = s.opened;
+  sides = s.sides;
+  few = s.few;
+  within = s.within;
+  sizes = s.sizes;
+  heard = λ name epoch way. more name epoch way _ (s.heard name epoch way);
+}
 
 -- what is said of a side: its entity, and the size of its SNs
 pub record Shown : Type 0 where
@@ -64,10 +97,10 @@ size_shown None s e = absurd (none-some (shown s) e)
 size_shown (Some was) s e = (was, refl, sym (ap (λ (x : Shown). x.size) (same_Some (shown was) (shown s) e)))
 
 -- sides of which the same is said stand alike
-pub stands_same : {t : Contents} {view : View} {limit : Limits} {air : List (Option Pdu)} (new : View)
+pub stands_same : {q : Logs} {t : Contents} {view : View} {limit : Limits} {air : List (Option Pdu)} (new : View)
     → ((side : Side) (name : PortName) → option_map shown (new (owner side name) name) ≡ option_map shown (view (owner side name) name))
-    → Stands t view limit air → Stands t new limit air
-stands_same {t} {view} {limit} {air} new same s = record {
+    → Stands q t view limit air → Stands q t new limit air
+stands_same {q} {t} {view} {limit} {air} new same s = record {
   ports = s.ports;
   epochs = s.epochs;
   fits = s.fits;
@@ -83,6 +116,7 @@ stands_same {t} {view} {limit} {air} new same s = record {
   sizes = λ side name now here.
       let old = size_shown (view (owner side name) name) now (sym (same side name) ∙ ap (option_map shown) here) in
       old.2 ∙ s.sizes side name old.0 old.1;
+  heard = s.heard;
 }
   where
     was : (side : Side) (name : PortName) → sides_of view side name ≡ sides_of new side name
@@ -90,8 +124,8 @@ stands_same {t} {view} {limit} {air} new same s = record {
         ∙ entity_shown (new (owner side name) name)
 
 -- a PDU goes off the air
-pub stands_off : (l : RlcLaws) {t : Contents} {view : View} {limit : Limits} {air : List (Option Pdu)} (ticket : ℕ) → Stands t view limit air
-    → Stands t view limit (off_air air ticket)
+pub stands_off : (l : RlcLaws) {q : Logs} {t : Contents} {view : View} {limit : Limits} {air : List (Option Pdu)} (ticket : ℕ) → Stands q t view limit air
+    → Stands q t view limit (off_air air ticket)
 stands_off l {air = air} ticket s = record {
   ports = s.ports;
   epochs = s.epochs;
@@ -101,10 +135,11 @@ stands_off l {air = air} ticket s = record {
   few = λ name epoch port way is. omega (arith, s.few name epoch port way is, air_long air ticket);
   within = s.within;
   sizes = s.sizes;
+  heard = s.heard;
 }
 
 -- one side of a port changes, but for its size
-module _ {t : Contents} {limit : Limits} {air : List (Option Pdu)} {view : View} (s : Stands t view limit air) (side : Side) (name : PortName) (was now : PortSide)
+module _ {q : Logs} {t : Contents} {limit : Limits} {air : List (Option Pdu)} {view : View} (s : Stands q t view limit air) (side : Side) (name : PortName) (was now : PortSide)
     (there : view (owner side name) name ≡ Some was) (same_size : now.size ≡ was.size)
     (new : View) (change : Changes view (owner side name) name (Some now) new) where
   pub entity_changes : Changes (sides_of view) side name now.entity (sides_of new)
@@ -125,7 +160,7 @@ module _ {t : Contents} {limit : Limits} {air : List (Option Pdu)} {view : View}
   ]
 
 -- an entity of a port's side is called
-module _ (l : RlcLaws) {t : Contents} {limit : Limits} {air : List (Option Pdu)} {view : View} (s : Stands t view limit air) (side : Side) (name : PortName) (was now : PortSide)
+module _ (l : RlcLaws) {q : Logs} {t : Contents} {limit : Limits} {air : List (Option Pdu)} {view : View} (s : Stands q t view limit air) (side : Side) (name : PortName) (was now : PortSide)
     (entity : Entity) (tx : Tx) (rx : Rx)
     (there : view (owner side name) name ≡ Some was) (is_open : was.entity ≡ Some entity) (same_size : now.size ≡ was.size)
     (its_entity : now.entity ≡ Some (record entity { tx = tx; rx = rx }))
@@ -166,45 +201,77 @@ module _ (l : RlcLaws) {t : Contents} {limit : Limits} {air : List (Option Pdu)}
     | inr old ↦ omega (arith, le, s.few q e p w old)
   ]
 
-  -- it sends no data PDU
-  pub stands_called : is_grant event ≡ false → Stands t new limit air
-  stands_called quiet = record {
-    ports = called.0;
-    epochs = s.epochs;
-    fits = called.3;
-    opened = λ ticket pdu on. still_there pdu.port pdu.epoch (s.opened ticket pdu on);
-    sides = called.2;
-    few = few_more (length air) (omega arith) (λ w. omega (arith, moves_same way m.moves quiet w, s.few name entity.epoch port w here));
-    within = s.within;
-    sizes = sizes_stay s side name was now there same_size new change;
-  }
+  -- what is said of what was heard, where it is said of the port that moved and of each other
+  module _ {r : Logs} (here_so : (w : Way) → q name entity.epoch w (hop_of port w).heard → r name entity.epoch w (hop_of behind w).heard)
+      (else_so : (p : PortName) (e : ℕ) (w : Way) (heard : List Data) → ((p ≡ name) × (e ≡ entity.epoch) → ⊥) → q p e w heard → r p e w heard) where
+    heard_behind : (p : PortName) (e : ℕ) (w : Way) → r p e w (heard_in (called.0 p e) w)
+    heard_behind p e w = elim (cases_port p name) [
+      | inr ne ↦ elsewhere (λ same. ne same.0)
+      | inl same ↦ elim (cases_eq e entity.epoch) [
+        | inr ne ↦ elsewhere (λ one. ne one.1)
+        | inl epoch ↦ subst (λ (x : PortName). r x e w (heard_in (called.0 x e) w)) (sym same) (subst (λ (x : ℕ). r name x w (heard_in (called.0 name x) w)) (sym epoch)
+            (subst (λ (o : Option Port). r name entity.epoch w (heard_in o w)) (sym called.1.here)
+            (here_so w (subst (λ (o : Option Port). q name entity.epoch w (heard_in o w)) here (s.heard name entity.epoch w)))))
+      ]
+    ]
+      where
+        elsewhere : ((p ≡ name) × (e ≡ entity.epoch) → ⊥) → r p e w (heard_in (called.0 p e) w)
+        elsewhere ne = subst (λ (o : Option Port). r p e w (heard_in o w)) (sym (called.1.others p e ne)) (else_so p e w _ ne (s.heard p e w))
 
-  -- it sends a PDU, which goes on the air
-  pub stands_sent : ((w : Way) → length (hop_of behind w).pdus ≤ length (hop_of port w).pdus + 1) → (status : Bool) (number : ℕ) (bytes : List ℕ)
-      → HasMade behind (way_from side) status number bytes
-      → Stands t new limit (air ++ Some (sent_from name side entity.epoch status number bytes) ∷ [])
-  stands_sent most status number bytes made = record {
-    ports = called.0;
-    epochs = s.epochs;
-    fits = called.4 status number bytes made;
-    opened = λ ticket pdu on. elim (air_more air (sent_from name side entity.epoch status number bytes) pdu ticket on) [
-      | inl before ↦ still_there pdu.port pdu.epoch (s.opened ticket pdu before)
-      | inr this ↦ still_there pdu.port pdu.epoch (port, ap (λ (pdu : Pdu). s.ports pdu.port pdu.epoch) this ∙ here)
-    ];
-    sides = called.2;
-    few = few_more (length (air ++ Some (sent_from name side entity.epoch status number bytes) ∷ [])) (omega (arith, longer))
-        (λ w. omega (arith, longer, most w, s.few name entity.epoch port w here));
-    within = s.within;
-    sizes = sizes_stay s side name was now there same_size new change;
-  }
-    where
-      longer : length (air ++ Some (sent_from name side entity.epoch status number bytes) ∷ []) ≡ length air + 1
-      longer = length_push air (Some (sent_from name side entity.epoch status number bytes))
+    -- it sends no data PDU
+    pub stands_moved : is_grant event ≡ false → Stands r t new limit air
+    stands_moved quiet = record {
+      ports = called.0;
+      epochs = s.epochs;
+      fits = called.3;
+      opened = λ ticket pdu on. still_there pdu.port pdu.epoch (s.opened ticket pdu on);
+      sides = called.2;
+      few = few_more (length air) (omega arith) (λ w. omega (arith, moves_same way m.moves quiet w, s.few name entity.epoch port w here));
+      within = s.within;
+      sizes = sizes_stay s side name was now there same_size new change;
+      heard = heard_behind;
+    }
 
--- what a call of an entity does to the port of which it is a side: nothing, or it moves it and sends no data PDU
+  -- it hears no data PDU
+  module _ (silent : is_delivery event ≡ false) where
+    same_heard : (w : Way) → q name entity.epoch w (hop_of port w).heard → q name entity.epoch w (hop_of behind w).heard
+    same_heard w so = subst (q name entity.epoch w) (sym (moves_heard way m.moves silent w)) so
+
+    -- and sends none
+    pub stands_called : is_grant event ≡ false → Stands q t new limit air
+    stands_called quiet = stands_moved same_heard (λ p e w heard ne so. so) quiet
+
+    -- it sends a PDU, which goes on the air
+    pub stands_sent : ((w : Way) → length (hop_of behind w).pdus ≤ length (hop_of port w).pdus + 1) → (status : Bool) (number : ℕ) (bytes : List ℕ)
+        → HasMade behind (way_from side) status number bytes
+        → Stands q t new limit (air ++ Some (sent_from name side entity.epoch status number bytes) ∷ [])
+    stands_sent most status number bytes made = record {
+      ports = called.0;
+      epochs = s.epochs;
+      fits = called.4 status number bytes made;
+      opened = λ ticket pdu on. elim (air_more air (sent_from name side entity.epoch status number bytes) pdu ticket on) [
+        | inl before ↦ still_there pdu.port pdu.epoch (s.opened ticket pdu before)
+        | inr this ↦ still_there pdu.port pdu.epoch (port, ap (λ (pdu : Pdu). s.ports pdu.port pdu.epoch) this ∙ here)
+      ];
+      sides = called.2;
+      few = few_more (length (air ++ Some (sent_from name side entity.epoch status number bytes) ∷ [])) (omega (arith, longer))
+          (λ w. omega (arith, longer, most w, s.few name entity.epoch port w here));
+      within = s.within;
+      sizes = sizes_stay s side name was now there same_size new change;
+      heard = heard_behind same_heard (λ p e w heard ne so. so);
+    }
+      where
+        longer : length (air ++ Some (sent_from name side entity.epoch status number bytes) ∷ []) ≡ length air + 1
+        longer = length_push air (Some (sent_from name side entity.epoch status number bytes))
+
+-- the event neither sends a data PDU nor hears one
+abbrev pub is_quiet : Event → Bool
+is_quiet event = not (is_grant event) && not (is_delivery event)
+
+-- what a call of an entity does to the port of which it is a side: nothing, or it moves it, and sends no data PDU and hears none
 pub data Moved (port : Port) (side : Side) (tx : Tx) (rx : Rx) : Type 0 where
   stays : IsSide port side tx rx → Moved port side tx rx
-  moves : (way : Way) (event : Event) (behind : Port) → is_grant event ≡ false → MovesSide port side way event tx rx behind → Moved port side tx rx
+  moves : (way : Way) (event : Event) (behind : Port) → is_quiet event ≡ true → MovesSide port side way event tx rx behind → Moved port side tx rx
 
 -- a side that has the transmitter and the receiver of another has the same
 same_entity : (port : Port) (side : Side) (entity : Entity) (tx : Tx) (rx : Rx) → IsSide port side entity.tx entity.rx → IsSide port side tx rx
@@ -216,6 +283,10 @@ same_entity port side entity tx rx was is =
 pub record SideChanges (n : Node) (port : PortName) (s : PortSide) (m : Node) : Type 0 where
   pub here : side_at m port ≡ Some s
   pub others : (q : PortName) → (q ≡ port → ⊥) → side_at m q ≡ side_at n q
+
+pub not_true : (b : Bool) → not b ≡ true → b ≡ false
+not_true true e = absurd (false≢true e)
+not_true false e = refl
 
 -- what a node's sides do, one behind another: nothing; one changes but for its entity and size; or the entity of one is called
 pub data NodeMoves : Node → Node → Type 0 where
@@ -273,9 +344,9 @@ module _ (sees : PortName → Bool) (rest : PortName → Option PortSide) (n m :
     ];
   }
 
-module _ (l : RlcLaws) {t : Contents} {limit : Limits} {air : List (Option Pdu)} (view : View) (x : NodeName) (sees : PortName → Bool) (rest : PortName → Option PortSide) where
+module _ (l : RlcLaws) {q : Logs} {t : Contents} {limit : Limits} {air : List (Option Pdu)} (view : View) (x : NodeName) (sees : PortName → Bool) (rest : PortName → Option PortSide) where
   -- moves of a node's sides keep what holds of those that are seen
-  pub node_stands : {n m : Node} → NodeMoves n m → Stands t (put view x (window sees rest n)) limit air → Stands t (put view x (window sees rest m)) limit air
+  pub node_stands : {n m : Node} → NodeMoves n m → Stands q t (put view x (window sees rest n)) limit air → Stands q t (put view x (window sees rest m)) limit air
   node_stands {n} {m} (rests same) s = stands_same _
       (put_alike view x (window sees rest n) (window sees rest m) (λ q own. window_shown sees rest n m q (ap (option_map shown) (same q)))) s
   node_stands {n} {m} (changes port was now there same sc) s = stands_same _
@@ -294,7 +365,7 @@ module _ (l : RlcLaws) {t : Contents} {limit : Limits} {air : List (Option Pdu)}
       in_view side own seen = put_here view x (window sees rest n) (owner side port) port own ∙ cond-true (sees port) (side_at n port) (rest port) seen ∙ there
 
       moved : (side : Side) → owner side port ≡ x → sees port ≡ true → (p : Port) (here : s.ports port entity.epoch ≡ Some p) → IsSide p side entity.tx entity.rx
-          → Moved p side tx rx → Stands t (put view x (window sees rest m)) limit air
+          → Moved p side tx rx → Stands q t (put view x (window sees rest m)) limit air
       moved side own seen p here before (stays is) = stands_same _
           (put_alike view x (window sees rest n) (window sees rest m) (λ q its. window_shown sees rest n m q (alike q (cases_port q port)))) s
         where
@@ -306,11 +377,12 @@ module _ (l : RlcLaws) {t : Contents} {limit : Limits} {air : List (Option Pdu)}
               ∙ ap (λ (z : SnSize). Some (record { entity = was.entity; size = z })) same_size ∙ ap (option_map shown) (sym there)
               ∙ ap (λ (q : PortName). option_map shown (side_at n q)) (sym e)
       moved side own seen p here before (moves way event behind quiet ms) =
+          let parts = and_parts (not (is_grant event)) (not (is_delivery event)) quiet in
           stands_called l s side port was now entity tx rx (in_view side own seen) is_open same_size its_entity (put view x (window sees rest m))
-          (put_changes sees rest n m view x side port now own seen sc) p here way event behind ms quiet
+          (put_changes sees rest n m view x side port now own seen sc) p here way event behind ms (not_true (is_delivery event) parts.1) (not_true (is_grant event) parts.0)
 
       by : ((side : Side) × (owner side port ≡ x)) ⊎ ((side : Side) → owner side port ≡ x → ⊥) → (sees port ≡ true) ⊎ (sees port ≡ false)
-          → Stands t (put view x (window sees rest m)) limit air
+          → Stands q t (put view x (window sees rest m)) limit air
       by (inl own) (inl seen) =
           let at = s.sides.open_port own.0 port entity (ap (option_and_then entity_of) (in_view own.0 own.1 seen) ∙ is_open) in
           moved own.0 own.1 seen at.0 at.1 at.2 (mover own.0 at.0 at.2)

@@ -62,7 +62,7 @@ place_new (y ∷ ys) x p (suc n) e = elim (place_new ys x p n e) [
 ]
 
 -- the same by tickets
-ticket_new : (air : List (Option Pdu)) (x p : Pdu) (ticket : ℕ) → on_air (air ++ Some x ∷ []) ticket ≡ Some p
+pub ticket_new : (air : List (Option Pdu)) (x p : Pdu) (ticket : ℕ) → on_air (air ++ Some x ∷ []) ticket ≡ Some p
     → ((ticket ≡ length air + 1) × (p ≡ x)) ⊎ ((ticket ≢ length air + 1) × (on_air air ticket ≡ Some p))
 ticket_new air x p ticket e = elim (cases_Bool (ticket == 0)) [
   | inl zero_ticket ↦ absurd (none-some p (sym (cond-true (ticket == 0) None (get_or (air ++ Some x ∷ []) (ticket - 1) None) zero_ticket) ∙ e))

@@ -123,7 +123,7 @@ module _ (t : Contents) (n m : Node) (same : Same n.attached m.attached) where
   srap_same at port sdu target (inl (v, reads, leads)) = inl (v, reads, header_same at port v target leads)
   srap_same at port sdu target (inr x) = inr x
 
-  leads_same : (at : Side) (port : PortName) (sdu : List ℕ) (target : Result Target Discard) → Leads t n at port sdu target → Leads t m at port sdu target
+  pub leads_same : (at : Side) (port : PortName) (sdu : List ℕ) (target : Result Target Discard) → Leads t n at port sdu target → Leads t m at port sdu target
   leads_same at (Direct remote drb) sdu target l = l
   leads_same at (Pc5 remote chan) sdu target l = srap_same at (Pc5 remote chan) sdu target l
   leads_same at (Uu chan) sdu target l = srap_same at (Uu chan) sdu target l

@@ -1,16 +1,13 @@
 -- A history tells a PDU as heard by a line exactly where the line has it heard.
-use Rattle.std.proofs.Common.{◌≡◌, ◌↔◌, ◌⊎◌, inl, inr, ℕ, ◌==◌, Bool, true, false, cond, not, ◌&&◌, ◌||◌, nat_lt, List, [], ◌∷◌, ◌++◌, map, filter_map, flat_map, Option, Some, None, is_some, Result, Ok, Err, append_assoc, refl, sym, ◌∙◌, ap, subst}
+use Rattle.std.proofs.Common.{◌≡◌, ◌↔◌, ◌⊎◌, inl, inr, ℕ, ◌==◌, Bool, true, false, cond, not, ◌&&◌, ◌||◌, nat_lt, List, [], ◌∷◌, ◌++◌, map, filter_map, flat_map, Option, Some, None, is_some, append_assoc, refl, sym, ◌∙◌, ap, subst}
 use Rattle.std.specs.List.{AllByRecursion, AllZip, cons_option, list_any}
 use Rattle.std.proofs.lemmas.Bool.{cases_Bool, true≢false, false≢true, and_parts, and_from, eqb-true, eq-eqb}
 use Rattle.std.proofs.lemmas.Option.{none-some, same_Some}
 use Rattle.link_base.specs.declared.names.Key.{Key}
 use Rattle.link_base.specs.declared.names.PortName.{PortName}
-use Rattle.link_base.specs.declared.names.Side.{Side}
 use Rattle.link_base.specs.declared.names.Way.{Way}
-use Rattle.link_base.specs.declared.discard.Discard.{Discard}
 use Rattle.link_base.specs.declared.rlc_words.Expired.{Expired}
 use Rattle.link_base.specs.declared.rlc_words.Expired.TheVariants as expiry
-use Rattle.bearer_map.specs.Contents.{Contents}
 use Rattle.rlc_model.specs.declared.hop.AirFault.{AirFault}
 use Rattle.rlc_model.specs.declared.hop.AirFault.TheVariants.{Gone, Stale}
 use Rattle.rlc_model.specs.declared.hop.HopHeard.{HopHeard}
@@ -20,8 +17,6 @@ use Rattle.rlc_model.specs.declared.receiver.Heard.TheVariants as receiving
 use Rattle.rlc_model.specs.declared.transmitter.StatusHeard.TheVariants as sending
 use Rattle.rlc_model.specs.Hop.{on_air}
 use Rattle.rlc_model.specs.Sides.{hearer_of, way_from}
-use Rattle.pdcp_model.specs.declared.answers.PdcpHeard.TheVariants as pdcp
-use Rattle.pdcp_model.specs.declared.answers.PdcpHeard.{PdcpHeard}
 use Rattle.pdcp_model.specs.declared.answers.SubmitFault.{SubmitFault}
 use Rattle.pdcp_model.specs.Sender.{confirmed, submit_fault}
 use Rattle.script_text.specs.declared.line.Line.{Line}
@@ -33,18 +28,18 @@ use Rattle.script_text.specs.History.{Entry}
 use Rattle.node_model.specs.declared.answers.NodeHeard.{NodeHeard}
 use Rattle.node_model.specs.declared.answers.NodeHeard.TheVariants as answers
 use Rattle.node_model.specs.declared.parcel.Parcel.{Parcel}
-use Rattle.node_model.specs.Ends.{heard_as, HearsPdcp, data_pdu, report, neither}
-use Rattle.node_model.specs.Hearing.{entity_fault, side_refusal, hear_refusal, Passes, Follows, HearsUnless}
+use Rattle.node_model.specs.Hearing.{entity_fault, side_refusal, hear_refusal, HearsUnless}
 use Rattle.node_model.specs.Names.{AtRelay, is_key}
-use Rattle.node_model.specs.Routing.{Target, ToPdcp, Onward}
-use Rattle.node_model.specs.State.{Node, PortSide, side_at, set_entity}
+use Rattle.node_model.specs.State.{PortSide, side_at, set_entity}
 use Rattle.node_model.specs.Tables.{keys}
 use Rattle.chain_model.specs.State.{Chain, node_at, sender_at}
 use Rattle.chain_model.specs.Bursts.{inbox, with_side, Ingests, ends, stops, pushes, hears, Ingress, told_by, Bursts}
 use Rattle.chain_model.specs.Lines.{Unless, submit_refusal, Submits, grant_refusal, Granted, hearer, is_handed_over, Comes, Delivers, without, Loses, stage_refusal, Stages, expire_refusal, Expires, report_refusal, Wants, plan_refusal, Plans, apply_refusal, Applies}
-use Rattle.chain_model.specs.Steps.{Does, confirming, reporting}
+use Rattle.chain_model.specs.Steps.{Does, Step, confirming, reporting}
 use Rattle.chain_model.specs.Telling.{marked, TellsHop, TellsHeard, TellsExpired}
 use Rattle.chain_model.specs.Told.{is_unheard, line_hears, event_hears, hears_ticket}
+use Rattle.chain_law.proofs.Hearing.{follows_handed}
+use Rattle.chain_law.proofs.Stands.{not_true}
 use Rattle.book_law.specs.Hearings.{coming}
 use Rattle.book_law.specs.Past.{steps, drained, ended}
 use Rattle.heard_law.specs.Tickets.{IsTaken, HasHeard, comes, in_burst, TicketsHeardAreTold}
@@ -68,7 +63,7 @@ none_heard t [] none = refl
 none_heard t (HeardTicket ticket reply ∷ events) none = absurd (true≢false none.0)
 none_heard t (e ∷ events) none = none_heard t events none.1
 
-any_append : (t : ℕ) (xs ys : List Event) → NoHeard ys → list_any (event_hears t) (xs ++ ys) ≡ list_any (event_hears t) xs
+pub any_append : (t : ℕ) (xs ys : List Event) → NoHeard ys → list_any (event_hears t) (xs ++ ys) ≡ list_any (event_hears t) xs
 any_append t [] ys none = none_heard t ys none
 any_append t (x ∷ xs) ys none = ap (λ (b : Bool). event_hears t x || b) (any_append t xs ys none)
 
@@ -99,10 +94,6 @@ ups_none key (x ∷ sdus) = (refl, ups_none key sdus)
 marks_none : (port : PortName) (way : Way) (marks : List ℕ) → NoHeard (marked port way marks)
 marks_none port way [] = tt
 marks_none port way (n ∷ marks) = (refl, marks_none port way marks)
-
-not_true : (b : Bool) → not b ≡ true → b ≡ false
-not_true true e = absurd (false≢true e)
-not_true false e = refl
 
 -- a reply tells whether the PDU was handed over
 pub record Says (answer : NodeHeard) (events : List Event) (reply : Reply) : Type 0 where
@@ -140,41 +131,7 @@ heard_says port way answers.Report events reply t = says _ events reply _ refl t
 heard_says port way (answers.Discard name) events reply t = says _ events reply _ refl t
 heard_says port way (answers.Hop answer) events reply t = hop_says port way answer events reply t
 
--- a side that hears a PDU takes it over
-handed_pdcp : (key : Key) (heard : PdcpHeard) → is_handed_over (heard_as key heard) ≡ true
-handed_pdcp key (pdcp.Up sdus) = refl
-handed_pdcp key pdcp.Stored = refl
-handed_pdcp key pdcp.Old = refl
-handed_pdcp key pdcp.Repeat = refl
-handed_pdcp key pdcp.BeforeStart = refl
-handed_pdcp key pdcp.PastEnd = refl
-
-module _ (t : Contents) (at : Side) where
-  pdcp_handed : (old : Node) (key : Key) (pdu : List ℕ) (answer : NodeHeard) (new : Node) → HearsPdcp old key pdu answer new → is_handed_over answer ≡ true
-  pdcp_handed old key pdu answer new (data_pdu sn sdu is h) = ap is_handed_over h.says ∙ handed_pdcp key h.heard
-  pdcp_handed old key pdu answer new (report fmc bits is (inl taken)) = ap is_handed_over taken.1
-  pdcp_handed old key pdu answer new (report fmc bits is (inr beyond)) = ap is_handed_over beyond.1
-  pdcp_handed old key pdu answer new (neither fault is tells same) = ap is_handed_over tells
-
-  passes_handed : (old : Node) (side : PortSide) (sdu : List ℕ) (target : Result Target Discard) (answer : NodeHeard) (new : Node) → Passes old side sdu target answer new
-      → is_handed_over answer ≡ true
-  passes_handed old side sdu (Ok (ToPdcp key pdu)) answer new p = pdcp_handed old key pdu answer new p
-  passes_handed old side sdu (Ok (Onward route)) answer new p = ap is_handed_over p.0
-  passes_handed old side sdu (Err discard) answer new p = ap is_handed_over p.0
-
-  follows_handed : (old : Node) (side : PortSide) (heard : HopHeard) (answer : NodeHeard) (new : Node) → Follows t old at side heard answer new → is_handed_over answer ≡ true
-  follows_handed old side (hop.Amd (receiving.Complete number sdu)) answer new f = passes_handed old side sdu f.0 answer new f.2
-  follows_handed old side (hop.Status (sending.Acked tags marks)) answer new f = ap is_handed_over f.0
-  follows_handed old side (hop.Amd receiving.Stored) answer new f = ap is_handed_over f.0
-  follows_handed old side (hop.Amd receiving.Repeat) answer new f = ap is_handed_over f.0
-  follows_handed old side (hop.Amd receiving.Outside) answer new f = ap is_handed_over f.0
-  follows_handed old side (hop.Amd receiving.Conflict) answer new f = ap is_handed_over f.0
-  follows_handed old side (hop.Status (sending.Old ack next)) answer new f = ap is_handed_over f.0
-  follows_handed old side (hop.Status (sending.Beyond ack sent)) answer new f = ap is_handed_over f.0
-  follows_handed old side (hop.BadAmd fault) answer new f = ap is_handed_over f.0
-  follows_handed old side (hop.BadStatus fault) answer new f = ap is_handed_over f.0
-
--- and one that refuses it doesn't
+-- a side that refuses a PDU doesn't take it over
 refused : (pdu : Pdu) (o : Option PortSide) (r : NodeHeard) → hear_refusal pdu o ≡ Some r → is_handed_over r ≡ false
 refused pdu None r e = ap is_handed_over (sym (same_Some answers.NoPort r e))
 refused pdu (Some side) r e = by (entity_fault pdu side.entity) e
@@ -268,7 +225,7 @@ module _ (old mid : Chain) where
           )
 
   -- what a burst shows as heard was taken
-  left_none : (tickets : List ℕ) → NoHeard (map (λ ticket. Left ticket) tickets)
+  pub left_none : (tickets : List ℕ) → NoHeard (map (λ ticket. Left ticket) tickets)
   left_none [] = tt
   left_none (ticket ∷ tickets) = (refl, left_none tickets)
 
@@ -288,7 +245,7 @@ module _ (old mid : Chain) where
     | inr other ↦ ingests_taken t more (sym (ap (λ (b : Bool). b || list_any (event_hears t) heard) other) ∙ is)
   ]
 
-  split : (t : ℕ) (xs ys : List Event) → list_any (event_hears t) (xs ++ ys) ≡ true → (list_any (event_hears t) xs ≡ true) ⊎ (list_any (event_hears t) ys ≡ true)
+  pub split : (t : ℕ) (xs ys : List Event) → list_any (event_hears t) (xs ++ ys) ≡ true → (list_any (event_hears t) xs ≡ true) ⊎ (list_any (event_hears t) ys ≡ true)
   split t [] ys is = inr is
   split t (x ∷ xs) ys is = elim (cases_Bool (event_hears t x)) [
     | inl this ↦ inl (ap (λ (b : Bool). b || list_any (event_hears t) xs) this)
@@ -308,6 +265,12 @@ module _ (old mid : Chain) where
     | inl first ↦ ingests_taken t all.0 (sym (any_append t i.heard (map (λ ticket. Left ticket) i.left) (left_none i.left)) ∙ first)
     | inr second ↦ burst_taken t sides ingresses all.1 second
   ]
+
+-- what is shown as heard is among a line's own events
+pub own_events : (old new : Chain) (e : Entry) (s : Step old e.line e.events e.reply new) (t : ℕ) → list_any (event_hears t) e.events ≡ list_any (event_hears t) s.own
+own_events old new e s t = ap (list_any (event_hears t)) (s.shows ∙ append_assoc s.own _ _)
+    ∙ any_append t s.own (filter_map (confirming old s.mid) (keys old.tables) ++ filter_map (reporting s.given) (keys old.tables))
+    (append_none _ _ (conf_none old s.mid (keys old.tables)) (rep_none s.given (keys old.tables)))
 
 -- a line with events of its own
 module _ (old mid : Chain) (e : Entry) (own rest : List Event) (none : NoHeard rest) (shows : e.events ≡ own ++ rest) (t : ℕ) where

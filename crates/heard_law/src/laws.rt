@@ -1,6 +1,12 @@
 // The laws of what a history tells.
 ghost use Rattle.heard_law.specs.Laws.{HistoriesTellTheChain, RunsTellTheChain, NodesLeadAsTold};
 ghost use Rattle.heard_law.specs.Tickets.{TicketsHeardAreTold};
+ghost use Rattle.heard_law.specs.Delivering.{DeliversWhatComes};
+ghost use Rattle.heard_law.specs.Receiving.{ReceiversHaveWhatWasDelivered};
+ghost use Rattle.heard_law.specs.HandingUp.{OrderlyHandUpsAreExact};
+
+use crate::foundations::{laws_of_hearings, laws_of_hops};
+use chain_law::what_is_heard_was_given;
 
 /// A law: behind each line of each run, those of a drain among them, a PDU on the air is the one that the grant showed which sent
 /// it, with the epoch of its sending side; each node attaches to each remote the local identity that the remote's plans say; and
@@ -17,3 +23,30 @@ pub fn histories_tell_the_chain()
 pub fn heard_tickets_are_told()
     ensures { TicketsHeardAreTold }
 {}
+
+/// A law: each data PDU that an entity hears by a line is one that the history delivers by that line over the entity's hop, in its
+/// epoch, under the number that the PDU was given, and with the fields that the entity read (TS 38.322 clause 5.2.3.2.2).
+pub fn what_comes_is_delivered()
+    ensures { DeliversWhatComes }
+{
+    what_is_heard_was_given();
+}
+
+/// A law: behind each run, whatever its lines, what an open receiver at an end has of its hop and epoch is what the history
+/// delivers over that hop: a number is complete exactly where its PDUs were heard, and as one SDU; of another number a byte is
+/// held, and the length known, exactly where a PDU that was delivered has it (TS 38.322 clause 5.2.3.2).
+pub fn receivers_have_what_was_delivered()
+    ensures { ReceiversHaveWhatWasDelivered }
+{
+    laws_of_hops();
+}
+
+/// A law: behind each run, whatever its lines, what was handed up of each key is at each moment the SDUs of the longest run of
+/// COUNTs from the first one on that the bytes of the delivered PDUs complete (TS 38.323 clause 5.2.2.1). It is said where each
+/// chain is orderly, so that an SDU leads to one target.
+pub fn hand_ups_are_exact()
+    ensures { OrderlyHandUpsAreExact }
+{
+    laws_of_hops();
+    laws_of_hearings();
+}

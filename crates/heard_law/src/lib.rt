@@ -5,6 +5,10 @@
 //! statement.
 #![tactic(auto)]
 
+mod foundations;
 mod laws;
 
-pub use laws::{heard_tickets_are_told, histories_tell_the_chain};
+pub use laws::{
+    hand_ups_are_exact, heard_tickets_are_told, histories_tell_the_chain,
+    receivers_have_what_was_delivered, what_comes_is_delivered,
+};
