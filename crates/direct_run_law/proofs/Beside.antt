@@ -27,7 +27,7 @@ use Rattle.chain_model.proofs.Lookups.{incoming_key, outgoing_key, in_others}
 use Rattle.chain_law.proofs.Nodes.{side_set}
 use Rattle.book_law.specs.Honest.{HasCount}
 use Rattle.direct_run_law.proofs.Carried.{Fits, fits_still, grows_itself, tags_themselves, none_itself}
-use Rattle.direct_run_law.proofs.Ends.{Half, sent, heard, half, Both, NodeSame, same_itself, same_then, same_out, same_in}
+use Rattle.direct_run_law.proofs.Ends.{Half, sent, heard, half, Both, NodeSame, same_itself, same_then, same_out, same_in, same_side}
 use Rattle.direct_run_law.proofs.Feeding.{out_kept}
 use Rattle.direct_run_law.proofs.Confirming.{tags_keep}
 use Rattle.direct_run_law.proofs.Leading.{leads_direct}
@@ -85,7 +85,7 @@ module _ (t : Contents) (n1 : Node) (port : PortName) (here : PortSide) (shown :
   passes_stand : (sdu : List ℕ) (target : Result Target Discard) (answer : NodeHeard) (new : Node) → Passes n1 here sdu target answer new → Stands new
   passes_stand sdu (Ok (ToPdcp key body)) answer new p = hears_stand key body answer new p
   passes_stand sdu (Ok (Onward route)) answer new p = subst Stands (sym p.1) (record {
-    same = record { name = refl; attached = refl; outs = refl; ins = refl };
+    same = same_side n1 (record here { slot = Some (record { from = here.name; route = route; sdu = sdu }) });
     entities = λ q.
         let now = record here { slot = Some (record { from = here.name; route = route; sdu = sdu }) } in
         let sets = side_set n1 port here now shown refl in

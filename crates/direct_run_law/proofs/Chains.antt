@@ -1,5 +1,5 @@
 -- What holds of a chain on direct ports, and what keeps it: a node changes, and all nodes feed.
-use Rattle.std.proofs.Common.{◌≡◌, ◌⊎◌, inl, inr, Bool, true, false, List, [], ◌∷◌, find, Option, Some, None, unwrap_or, refl, sym, ◌∙◌, ap, subst}
+use Rattle.std.proofs.Common.{◌≡◌, ◌⊎◌, inl, inr, Bool, true, false, List, [], ◌∷◌, map, find, Option, Some, None, unwrap_or, refl, sym, ◌∙◌, ap, subst}
 use Rattle.std.proofs.lemmas.Bool.{cases_Bool, cond-true, cond-false, true≢false}
 use Rattle.std.proofs.lemmas.Option.{none-some}
 use Rattle.link_base.specs.declared.names.Drb.{Drb}
@@ -18,11 +18,12 @@ use Rattle.node_model.specs.State.{Node, entity_at, no_node, incoming}
 use Rattle.node_model.specs.Feeding.{Feeds}
 use Rattle.node_model.proofs.Names.{cases_node, cases_owner, owner_side}
 use Rattle.node_model.proofs.Finding.{find_none}
-use Rattle.chain_model.specs.State.{Chain, node_at, set_node, entity_on}
+use Rattle.chain_model.specs.State.{Chain, opened, node_at, set_node, entity_on}
 use Rattle.chain_model.specs.Carried.{IsRowOf}
 use Rattle.chain_model.specs.Steps.{FeedsAll}
 use Rattle.chain_model.proofs.Lookups.{cases_found}
 use Rattle.chain_law.proofs.Chains.{node_in, node_name, node_set, node_kept}
+use Rattle.chain_law.proofs.Nodes.{port_of}
 use Rattle.book_law.proofs.Fed.{feeds_keep}
 use Rattle.direct_run_law.proofs.Ends.{Half, sent, heard, half, Both, both_across, NodeSame, IsEnd, end_stays, Goes, goes_nowhere}
 use Rattle.direct_run_law.proofs.Feeding.{Reports, MayReport, Fed, feeds_fed, feeds_rests, no_entity}
@@ -44,9 +45,14 @@ pub record Joined (c : Chain) (remote : Remote) (drb : Drb) : Type 0 where
 abbrev pub IsClosed : Chain → Remote → Drb → Type 0
 IsClosed c remote drb = (side : Side) → entity_on c side (Direct remote drb) ≡ None
 
--- what holds of a chain on direct ports
+-- the names of the ports that a node has
+abbrev pub ports_of : Node → List PortName
+ports_of n = map port_of n.ports
+
+-- what holds of a chain on direct ports: each node has the ports with which it was opened
 pub record Holds (c : Chain) : Type 0 where
   pub ends : (x : NodeName) → IsEnd (node_at c x)
+  pub ports : (x : NodeName) → ports_of (node_at c x) ≡ ports_of (node_at (opened c.tables) x)
   pub each : (remote : Remote) (drb : Drb) → Joined c remote drb ⊎ IsClosed c remote drb
 
 -- what holds of both sides
@@ -100,6 +106,7 @@ module _ (c d : Chain) (tables : d.tables ≡ c.tables) where
   pub holds_same : ((x : NodeName) → node_at d x ≡ node_at c x) → Holds c → Holds d
   holds_same nodes h = record {
     ends = λ x. subst IsEnd (sym (nodes x)) (h.ends x);
+    ports = λ x. ap ports_of (nodes x) ∙ h.ports x ∙ ap (λ (t : Contents). ports_of (node_at (opened t) x)) (sym tables);
     each = λ remote drb. elim (h.each remote drb) [
       | inl j ↦ inl (joined_same remote drb (λ side. nodes (owner side (Direct remote drb))) j)
       | inr none ↦ inr (λ side. ap (λ (n : Node). entity_at n (Direct remote drb)) (nodes (owner side (Direct remote drb))) ∙ none side)
@@ -135,6 +142,12 @@ module _ (c : Chain) (x : NodeName) (m : Node) (same : NodeSame (node_at c x) m)
     ends_set y = elim (cases_node y x) [
       | inl this ↦ subst IsEnd (sym (here y this)) (end_stays (node_at c x) m same (h.ends x))
       | inr ne ↦ subst IsEnd (sym (node_kept c x m name y ne)) (h.ends y)
+    ]
+
+    ports_set : (y : NodeName) → ports_of (node_at (set_node c m) y) ≡ ports_of (node_at (opened c.tables) y)
+    ports_set y = elim (cases_node y x) [
+      | inl this ↦ ap ports_of (here y this) ∙ same.ports ∙ h.ports x ∙ ap (λ (z : NodeName). ports_of (node_at (opened c.tables) z)) (sym this)
+      | inr ne ↦ ap ports_of (node_kept c x m name y ne) ∙ h.ports y
     ]
 
     module _ (remote : Remote) (drb : Drb) where
@@ -173,7 +186,7 @@ module _ (c : Chain) (x : NodeName) (m : Node) (same : NodeSame (node_at c x) m)
   holds_set h = elim (cases_found (find (λ (n : Node). is_node x n.name) c.nodes)) [
     | inr none ↦ holds_beside c (set_node c m) refl
         (find_none (λ (n : Node). is_node m.name n.name) m c.nodes (ap (λ (y : NodeName). find (λ (n : Node). is_node y n.name) c.nodes) name ∙ none)) h
-    | inl there ↦ record { ends = ends_set h there.0 there.1; each = each_set h there.0 there.1 }
+    | inl there ↦ record { ends = ends_set h there.0 there.1; ports = ports_set h there.0 there.1; each = each_set h there.0 there.1 }
   ]
 
 -- a node feeds, or there is none
@@ -241,6 +254,12 @@ module _ (c : Chain) (given : List Key) (nodes : List Node) (f : FeedsAll c.tabl
     | inr is ↦ subst IsEnd (sym is) (h.ends x)
   ]
 
+  ports_fed : (h : Holds c) (x : NodeName) → ports_of (node_at behind x) ≡ ports_of (node_at (opened c.tables) x)
+  ports_fed h x = elim (fed_in any_key c.tables x c.nodes given nodes f) [
+    | inl y ↦ (feeds_rests c.tables (node_at c x) y.0 (node_at behind x) y.1).same.ports ∙ h.ports x
+    | inr is ↦ ap ports_of is ∙ h.ports x
+  ]
+
   -- each receiving side stays
   pub receivers_fed : (x : NodeName) (k : Key) → (incoming (node_at behind x) k).receiver ≡ (incoming (node_at c x) k).receiver
   receivers_fed x k = elim (fed_in k c.tables x c.nodes given nodes f) [
@@ -253,6 +272,7 @@ module _ (c : Chain) (given : List Key) (nodes : List Node) (f : FeedsAll c.tabl
       → Holds behind
   holds_fed h reports = record {
     ends = end_fed h;
+    ports = ports_fed h;
     each = λ remote drb. elim (h.each remote drb) [
       | inl j ↦ inl (feeds_join remote drb h j (reports remote drb j))
       | inr none ↦ inr (feeds_closed remote drb h none)

@@ -14,11 +14,11 @@ use Rattle.rlc_model.specs.Sides.{Entity, across, flip, way_from}
 use Rattle.rlc_model.specs.Tx.{Tx}
 use Rattle.pdcp_model.specs.Sender.{Sender}
 use Rattle.pdcp_model.specs.Receiver.{Receiver}
-use Rattle.node_model.specs.Names.{is_key, key_of, source, sink, replaced}
-use Rattle.node_model.specs.State.{PortSide, Outgoing, Incoming, Node, side_at, entity_at, entity_of, outgoing, incoming, set_entity, set_outgoing, set_incoming}
+use Rattle.node_model.specs.Names.{is_key, is_port, key_of, source, sink, replaced}
+use Rattle.node_model.specs.State.{PortSide, Outgoing, Incoming, Node, side_at, entity_at, entity_of, outgoing, incoming, set_side, set_entity, set_outgoing, set_incoming}
 use Rattle.node_model.specs.Feeding.{in_key, out_key}
-use Rattle.node_model.proofs.Names.{cases_port, key_is}
-use Rattle.chain_law.proofs.Nodes.{side_set}
+use Rattle.node_model.proofs.Names.{cases_port, key_is, port_is}
+use Rattle.chain_law.proofs.Nodes.{port_of, side_set}
 use Rattle.direct_run_law.proofs.Carried.{Fits}
 
 -- what an end of a bearer has: the entity's transmitter and receiver, the sender of the key that it sends and the receiving side of the other key
@@ -48,45 +48,42 @@ pub both_across : (remote : Remote) (drb : Drb) (side : Side) (a b : Half) → B
 both_across remote drb Low a b x = (x.1, x.0)
 both_across remote drb High a b x = (x.1, x.0)
 
--- a node's names, attachments and keys stay
+-- a node's names, those of its ports among them, attachments and keys stay
 pub record NodeSame (old new : Node) : Type 0 where
   pub name : new.name ≡ old.name
+  pub ports : map port_of new.ports ≡ map port_of old.ports
   pub attached : new.attached ≡ old.attached
   pub outs : map out_key new.outgoing ≡ map out_key old.outgoing
   pub ins : map in_key new.incoming ≡ map in_key old.incoming
 
 pub same_itself : (n : Node) → NodeSame n n
-same_itself n = record { name = refl; attached = refl; outs = refl; ins = refl }
+same_itself n = record { name = refl; ports = refl; attached = refl; outs = refl; ins = refl }
 
 pub same_then : (x y z : Node) → NodeSame x y → NodeSame y z → NodeSame x z
-same_then x y z p q = record { name = q.name ∙ p.name; attached = q.attached ∙ p.attached; outs = q.outs ∙ p.outs; ins = q.ins ∙ p.ins }
+same_then x y z p q = record { name = q.name ∙ p.name; ports = q.ports ∙ p.ports; attached = q.attached ∙ p.attached; outs = q.outs ∙ p.outs; ins = q.ins ∙ p.ins }
 
--- rows that are set keep their keys
-outs_set : (o : Outgoing) (rows : List Outgoing) → map out_key (replaced (λ (x : Outgoing). is_key o.key x.key) o rows) ≡ map out_key rows
-outs_set o [] = refl
-outs_set o (x ∷ xs) = ap (λ (keys : List Key). out_key (cond (is_key o.key x.key) o x) ∷ keys) (outs_set o xs) ∙ ap (λ (k : Key). k ∷ map out_key xs)
-    (by (is_key o.key x.key) refl)
+-- rows keep their names where one is set in the place of those of its name
+names_set : {Row Name : Type 0} (name : Row → Name) (mine : Row → Bool) (now : Row) → ((x : Row) → mine x ≡ true → name now ≡ name x) → (rows : List Row)
+    → map name (replaced mine now rows) ≡ map name rows
+names_set name mine now is_one [] = refl
+names_set {Row} {Name} name mine now is_one (x ∷ xs) = ap (λ (names : List Name). name (cond (mine x) now x) ∷ names) (names_set name mine now is_one xs)
+    ∙ ap (λ (own : Name). own ∷ map name xs) (by (mine x) refl)
   where
-    by : (b : Bool) → is_key o.key x.key ≡ b → out_key (cond b o x) ≡ x.key
-    by true is = key_is o.key x.key is
-    by false is = refl
-
-ins_set : (i : Incoming) (rows : List Incoming) → map in_key (replaced (λ (x : Incoming). is_key i.key x.key) i rows) ≡ map in_key rows
-ins_set i [] = refl
-ins_set i (x ∷ xs) = ap (λ (keys : List Key). in_key (cond (is_key i.key x.key) i x) ∷ keys) (ins_set i xs) ∙ ap (λ (k : Key). k ∷ map in_key xs) (by (is_key i.key x.key) refl)
-  where
-    by : (b : Bool) → is_key i.key x.key ≡ b → in_key (cond b i x) ≡ x.key
-    by true is = key_is i.key x.key is
+    by : (b : Bool) → mine x ≡ b → name (cond b now x) ≡ name x
+    by true is = is_one x is
     by false is = refl
 
 pub same_out : (n : Node) (o : Outgoing) → NodeSame n (set_outgoing n o)
-same_out n o = record { name = refl; attached = refl; outs = outs_set o n.outgoing; ins = refl }
+same_out n o = record { name = refl; ports = refl; attached = refl; outs = names_set out_key (λ (x : Outgoing). is_key o.key x.key) o (λ x is. key_is o.key x.key is) n.outgoing; ins = refl }
 
 pub same_in : (n : Node) (i : Incoming) → NodeSame n (set_incoming n i)
-same_in n i = record { name = refl; attached = refl; outs = refl; ins = ins_set i n.incoming }
+same_in n i = record { name = refl; ports = refl; attached = refl; outs = refl; ins = names_set in_key (λ (x : Incoming). is_key i.key x.key) i (λ x is. key_is i.key x.key is) n.incoming }
+
+pub same_side : (n : Node) (s : PortSide) → NodeSame n (set_side n s)
+same_side n s = record { name = refl; ports = names_set port_of (λ (x : PortSide). is_port s.name x.name) s (λ x is. port_is s.name x.name is) n.ports; attached = refl; outs = refl; ins = refl }
 
 pub same_entity : (n : Node) (s : PortSide) (e : Entity) → NodeSame n (set_entity n s e)
-same_entity n s e = record { name = refl; attached = refl; outs = refl; ins = refl }
+same_entity n s e = same_side n (record s { entity = Some e })
 
 -- a node attaches nothing, and has only the keys of its ends
 pub record IsEnd (n : Node) : Type 0 where

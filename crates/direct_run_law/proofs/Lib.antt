@@ -14,4 +14,6 @@ pub mod Delivering
 pub mod Honest
 pub mod Runs
 pub mod Opened
+pub mod Own
+pub mod Staying
 pub mod TheLaws

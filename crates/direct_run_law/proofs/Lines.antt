@@ -1,5 +1,6 @@
 -- Each line but those that hear a PDU keeps what holds of a chain on direct ports.
 use Rattle.std.proofs.Common.{◌≡◌, inl, inr, ℕ, Bool, true, false, List, [], ◌∷◌, ◌++◌, length, map, Option, Some, None, option_and_then, refl, sym, ◌∙◌, ap, subst, arith}
+use Rattle.std.specs.List.{AllZip}
 use Rattle.std.proofs.lemmas.Bool.{cases_lt, true≢false}
 use Rattle.std.proofs.lemmas.Option.{none-some}
 use Rattle.std.proofs.lemmas.List.{get_or_append_left, get_or_past}
@@ -23,6 +24,7 @@ use Rattle.pdcp_model.specs.Sender.{Sender, accepts}
 use Rattle.pdcp_model.specs.Receiver.{Receiver}
 use Rattle.script_text.specs.declared.event.Event.{Event}
 use Rattle.script_text.specs.declared.reply.Reply.{Reply}
+use Rattle.node_model.specs.declared.parcel.Parcel.{Parcel}
 use Rattle.node_model.specs.declared.answers.PushReply.{PushReply}
 use Rattle.node_model.specs.declared.answers.PushReply.TheVariants as pushed
 use Rattle.node_model.specs.declared.answers.PullReply.{PullReply}
@@ -33,13 +35,14 @@ use Rattle.node_model.specs.Sides.{IsOpen}
 use Rattle.node_model.specs.State.{PortSide, Outgoing, Incoming, Node, side_at, entity_at, entity_of, outgoing, incoming, set_side, set_entity, set_outgoing, set_incoming}
 use Rattle.node_model.proofs.Names.{cases_key, cases_port}
 use Rattle.chain_model.proofs.Lookups.{incoming_key, outgoing_key}
-use Rattle.chain_model.specs.Bursts.{Bursts, behind_egress}
+use Rattle.chain_model.specs.Bursts.{Ingress, Egress, Ingests, Emits, Bursts, all_put, inbox, behind_ingress, behind_egress}
 use Rattle.chain_model.specs.Lines.{Unless, Submits, Granted, Sends, Loses, without, Stages, Expires, PushesAt, PullsAt, queue_capacity, Wants}
 use Rattle.chain_model.specs.State.{Chain, node_at, set_node, sender_at}
 use Rattle.chain_law.specs.Calls.{KeepsTags, CompletesNone}
+use Rattle.chain_law.proofs.Nodes.{port_of, side_name}
 use Rattle.direct_run_law.specs.Foundations.{CallLaws}
 use Rattle.direct_run_law.proofs.Carried.{Fits, SenderKeeps, fits_still, keeps_itself, grows_itself, tags_themselves, none_itself}
-use Rattle.direct_run_law.proofs.Ends.{Half, sent, heard, NodeSame, same_itself, same_out, same_in, same_entity, Goes, goes_rows, goes_entity, entity_other}
+use Rattle.direct_run_law.proofs.Ends.{Half, sent, heard, NodeSame, same_itself, same_then, same_out, same_in, same_side, same_entity, Goes, goes_rows, goes_entity, entity_other}
 use Rattle.direct_run_law.proofs.Feeding.{in_same, out_kept}
 use Rattle.direct_run_law.proofs.Hops.{granted_long, expired_long}
 use Rattle.direct_run_law.proofs.Confirming.{out_keeps}
@@ -189,15 +192,17 @@ relay_holds old m same = holds_set old AtRelay m same
     (λ remote drb at own j. absurd (true≢false (sym (ap is_relay own) ∙ apart at remote drb)))
 
 push_same : (capacity : ℕ) (n : Node) (port : PortName) (answer : PushReply) (m : Node) → PushesPort capacity n port answer m → NodeSame n m
-push_same capacity n port (pushed.Done egress) m p = subst (NodeSame n)
-    (sym (p.1.is ∙ ap (λ (x : Node). set_side x (record p.1.to { queue = p.1.to.queue ++ p.1.parcel ∷ [] })) p.1.empties))
-    (record { name = refl; attached = refl; outs = refl; ins = refl })
+push_same capacity n port (pushed.Done egress) m p =
+    let empty : PortSide = record p.1.from { slot = None } in
+    let full : PortSide = record p.1.to { queue = p.1.to.queue ++ p.1.parcel ∷ [] } in
+    subst (NodeSame n) (sym (p.1.is ∙ ap (λ (x : Node). set_side x full) p.1.empties))
+    (same_then n (set_side n empty) (set_side (set_side n empty) full) (same_side n empty) (same_side (set_side n empty) full))
 push_same capacity n port pushed.NoPort m p = subst (NodeSame n) (sym p.1) (same_itself n)
 push_same capacity n port pushed.Nothing m p = subst (NodeSame n) (sym p.1) (same_itself n)
 push_same capacity n port pushed.QueueFull m p = subst (NodeSame n) (sym p.1) (same_itself n)
 
 pull_same : (n : Node) (port : PortName) (answer : PullReply) (m : Node) → PullsPort n port answer m → NodeSame n m
-pull_same n port (pulled.Done number) m p = subst (NodeSame n) (sym p.1.is) (record { name = refl; attached = refl; outs = refl; ins = refl })
+pull_same n port (pulled.Done number) m p = subst (NodeSame n) (sym p.1.is) (same_side n (record p.1.side { entity = Some (record p.1.entity { tx = p.1.tx }); queue = p.1.parcels }))
 pull_same n port pulled.NoPort m p = subst (NodeSame n) (sym p.1) (same_itself n)
 pull_same n port pulled.Empty m p = subst (NodeSame n) (sym p.1) (same_itself n)
 pull_same n port pulled.Stalled m p = subst (NodeSame n) (sym p.1) (same_itself n)
@@ -208,10 +213,41 @@ pushes_hold old port events reply new h p = subst Holds (sym p.is) (relay_holds 
 pub pulls_hold : (old : Chain) (port : PortName) (events : List Event) (reply : Reply) (new : Chain) → Holds old → PullsAt old port events reply new → Holds new
 pulls_hold old port events reply new h p = subst Holds (sym p.is) (relay_holds old p.node (pull_same (node_at old AtRelay) port p.answer p.node p.pulls) h)
 
+-- a side keeps its name in a burst
+side_kept : (n : Node) (port : PortName) (s : PortSide) → side_at n port ≡ Some s → s.name ≡ port
+side_kept n port s is = sym (side_name n port s is)
+
+ingress_kept : {c : Chain} {s now : PortSide} {tickets left : List ℕ} {told : List Event} {put : List Parcel} → Ingests c s tickets told put left now → now.name ≡ s.name
+ingress_kept (Ingests.ends none) = refl
+ingress_kept (Ingests.stops full) = refl
+ingress_kept (Ingests.pushes parcel full more) = ingress_kept more
+ingress_kept {s = s} (Ingests.hears {mid = mid} ticket pdu reply free shown treats more) = ingress_kept more ∙ side_kept (node_at treats.1 AtRelay) s.name mid treats.3
+
+ingresses_kept : (c : Chain) (ports : List PortSide) (is : List Ingress)
+    → AllZip (λ (s : PortSide) (i : Ingress). Ingests c s (inbox c s.name) i.heard i.put i.left i.behind) ports is → map port_of (map behind_ingress is) ≡ map port_of ports
+ingresses_kept c [] [] all = refl
+ingresses_kept c (s ∷ ss) (i ∷ is) all = ap (λ (p : PortName). p ∷ map port_of (map behind_ingress is)) (ingress_kept all.0)
+    ∙ ap (λ (ps : List PortName). s.name ∷ ps) (ingresses_kept c ss is all.1)
+ingresses_kept c [] (i ∷ is) all = absurd all
+ingresses_kept c (s ∷ ss) [] all = absurd all
+
+egresses_kept : (capacity : ℕ) (put : List Parcel) (ports : List PortSide) (es : List Egress) → AllZip (Emits capacity put) ports es
+    → map port_of (map behind_egress es) ≡ map port_of ports
+egresses_kept capacity put [] [] all = refl
+egresses_kept capacity put (s ∷ ss) (e ∷ es) all = ap (λ (p : PortName). p ∷ map port_of (map behind_egress es)) (ap port_of all.0.is)
+    ∙ ap (λ (ps : List PortName). s.name ∷ ps) (egresses_kept capacity put ss es all.1)
+egresses_kept capacity put [] (e ∷ es) all = absurd all
+egresses_kept capacity put (s ∷ ss) [] all = absurd all
+
+burst_ports : (old : Chain) (events : List Event) (reply : Reply) (new : Chain) (b : Bursts old events reply new)
+    → map port_of (map behind_egress b.egresses) ≡ map port_of (node_at old AtRelay).ports
+burst_ports old events reply new b = egresses_kept (queue_capacity old) (all_put b.ingresses) (map behind_ingress b.ingresses) b.egresses b.emit
+    ∙ ingresses_kept old (node_at old AtRelay).ports b.ingresses b.ingest
+
 pub bursts_hold : (old : Chain) (events : List Event) (reply : Reply) (new : Chain) → Holds old → Bursts old events reply new → Holds new
 bursts_hold old events reply new h b = subst Holds (sym b.is)
     (holds_beside (set_node old (record (node_at old AtRelay) { ports = map behind_egress b.egresses })) _ refl refl
-    (relay_holds old _ (record { name = refl; attached = refl; outs = refl; ins = refl }) h))
+    (relay_holds old _ (record { name = refl; ports = burst_ports old events reply new b; attached = refl; outs = refl; ins = refl }) h))
 
 pub loses_hold : (old : Chain) (pdu : Option Pdu) (ticket : ℕ) (events : List Event) (reply : Reply) (new : Chain) → Holds old → Loses old pdu ticket events reply new → Holds new
 loses_hold old None ticket events reply new h x = subst Holds (sym x.2) h

@@ -37,7 +37,7 @@ use Rattle.chain_model.specs.State.{opened, node_at, sender_at, receiving_at}
 use Rattle.book_law.specs.Past.{AreTables}
 use Rattle.book_law.proofs.Moves.{sender_is, receiving_is}
 use Rattle.book_law.proofs.Opened.{NewEnds, new_ends}
-use Rattle.direct_run_law.specs.Direct.{AreDirect}
+use Rattle.direct_run_law.specs.Direct.{BeginDirect}
 use Rattle.direct_run_law.proofs.Carried.{Fits}
 use Rattle.direct_run_law.proofs.Ends.{IsEnd}
 use Rattle.direct_run_law.proofs.Chains.{Holds, Joined, IsClosed, joined_from}
@@ -128,7 +128,7 @@ nothing_carried key size first tx rx far none empty = record {
   ];
 }
 
-module _ (t : Contents) (are : AreTables t) (direct : AreDirect t) where
+module _ (t : Contents) (are : AreTables t) (direct : BeginDirect t) where
   -- nothing is attached
   none_attached : (rows : List RemoteRow) → AllByRecursion (λ (row : RemoteRow). row.goal ≡ ToDirect) rows
       → flat_map (λ (row : RemoteRow). attachments row.remote row.goal) rows ≡ []
@@ -369,4 +369,4 @@ module _ (t : Contents) (are : AreTables t) (direct : AreDirect t) where
     ]
 
   pub opened_holds : Holds (opened t)
-  opened_holds = record { ends = ends; each = each }
+  opened_holds = record { ends = ends; ports = λ x. refl; each = each }

@@ -1,3 +1,4 @@
 pub mod Direct
 pub mod Foundations
 pub mod Laws
+pub mod Own

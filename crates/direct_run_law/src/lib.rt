@@ -8,4 +8,6 @@
 mod foundations;
 mod laws;
 
-pub use laws::{direct_runs_are_honest, the_book_is_kept_on_direct_ports};
+pub use laws::{
+    direct_ports_keep_their_own_tags, direct_runs_are_honest, the_book_is_kept_on_direct_ports,
+};
