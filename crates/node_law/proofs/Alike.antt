@@ -1,5 +1,5 @@
 -- What is done alike to nodes that nothing tells apart leaves such nodes.
-use Rattle.std.proofs.Common.{◌≡◌, ℕ, ◌==◌, Bool, true, false, if◌then◌else◌, List, [], ◌∷◌, fold, find, unwrap_or, Option, Some, None, option_map, option_and_then, refl, ◌∙◌, ap, subst}
+use Rattle.std.proofs.Common.{◌≡◌, ℕ, ◌==◌, Bool, true, false, if◌then◌else◌, List, [], ◌∷◌, fold, find, unwrap_or, Option, Some, None, is_none, option_map, option_and_then, refl, ◌∙◌, ap, subst}
 use Rattle.link_base.specs.declared.names.Key.{Key}
 use Rattle.link_base.specs.declared.names.PortName.{PortName}
 use Rattle.link_base.specs.declared.names.PortName.TheVariants.{Direct, Pc5, Uu}
@@ -115,6 +115,13 @@ pub tags_too : (m n : Node) → SameNode m n → (port : PortName) (tags : List 
 tags_too m n e (Direct remote drb) tags = each_too tags m n e
 tags_too m n e (Pc5 remote chan) tags = e
 tags_too m n e (Uu chan) tags = e
+
+-- one is closed where the other is
+pub closed_alike : (x y : Option Entity) → SameOpen x y → is_none x ≡ is_none y
+closed_alike None None same = refl
+closed_alike None (Some y) same = absurd same
+closed_alike (Some x) None same = absurd same
+closed_alike (Some x) (Some y) same = refl
 
 -- both are found and nothing tells them apart, or none is found
 abbrev pub SameFound : Option PortSide → Option PortSide → Type 0

@@ -48,6 +48,20 @@ same_on r s t e f = record {
   prohibit = e.prohibit ∙ f.prohibit;
 }
 
+-- with the same flags
+with_flags : (r s : Rx) → SameReceiver r s → (a b : Bool) (c d : Bool) → a ≡ b → c ≡ d
+    → SameReceiver (record r { status_triggered = a; status_prohibit_runs = c }) (record s { status_triggered = b; status_prohibit_runs = d })
+with_flags r s e a b c d triggered prohibit = record {
+  size = e.size;
+  each = e.each;
+  highest = e.highest;
+  highest_status = e.highest_status;
+  trigger = e.trigger;
+  triggered = triggered;
+  polls = e.polls;
+  prohibit = prohibit;
+}
+
 -- the first number that has one has the other, where each that has the one has the other
 first_both : (P Q : ℕ → Type 0) → ((n : ℕ) → P n → Q n) → ((n : ℕ) → Q n → P n) → (x y : ℕ) → IsFirst P x y → IsFirst Q x y
 first_both P Q on back x y f = record { from = f.from; has = on y f.has; none = λ k low high is. f.none k low high (back k is) }
@@ -146,18 +160,6 @@ module _ (r s : Rx) (e : SameReceiver r s) where
       (subst (λ (k : ℕ). WritesNacks s k y rest a) (ap (λ (z : SnSize). octets - nacks_len z g) e.size) (nacks_too (octets - nacks_len r.size g) y rest a more))
 
   -- a STATUS is made
-  prohibits_too : SameReceiver (prohibited r) (prohibited s)
-  prohibits_too = record {
-    size = e.size;
-    each = e.each;
-    highest = e.highest;
-    highest_status = e.highest_status;
-    trigger = e.trigger;
-    triggered = refl;
-    polls = e.polls;
-    prohibit = refl;
-  }
-
   pub status_too : (n a : ℕ) (status : Status) (r' : Rx) → WritesStatus r n a status r' → (s' : Rx) × WritesStatus s n a status s' × SameReceiver r' s'
   status_too n a status r' w = (
     prohibited s,
@@ -169,7 +171,7 @@ module _ (r s : Rx) (e : SameReceiver r s) where
       writes = subst (λ (k : ℕ). WritesNacks s (n - 3) k status.nacks a) (next_too r s e) (nacks_too (n - 3) (rx_next r) status.nacks a w.writes);
       after = refl;
     },
-    subst (λ (z : Rx). SameReceiver z (prohibited s)) (sym w.after) prohibits_too,
+    subst (λ (z : Rx). SameReceiver z (prohibited s)) (sym w.after) (with_flags r s e false false true true refl refl),
   )
 
 -- a list of so many entries
@@ -272,16 +274,9 @@ module _ (old other : Rx) (e : SameReceiver old other) (x : ℕ) (g : Got) (r : 
 module _ (old other : Rx) (e : SameReceiver old other) (v : Amd) where
   -- a PDU that changes nothing else
   polled_too : (r : Rx) → PollsAtOnce old v r → SameReceiver r (record other { status_triggered = other.status_triggered || v.poll })
-  polled_too r is = subst (λ (z : Rx). SameReceiver z (record other { status_triggered = other.status_triggered || v.poll })) (sym is) (record {
-    size = e.size;
-    each = e.each;
-    highest = e.highest;
-    highest_status = e.highest_status;
-    trigger = e.trigger;
-    triggered = ap (λ (b : Bool). b || v.poll) e.triggered;
-    polls = e.polls;
-    prohibit = e.prohibit;
-  })
+  polled_too r is = subst (λ (z : Rx). SameReceiver z (record other { status_triggered = other.status_triggered || v.poll })) (sym is)
+      (with_flags old other e (old.status_triggered || v.poll) (other.status_triggered || v.poll) old.status_prohibit_runs other.status_prohibit_runs
+      (ap (λ (b : Bool). b || v.poll) e.triggered) e.prohibit)
 
   stores_too : (x : ℕ) (r : Rx) → Stores old x v r → (s : Rx) × Stores other x v s × SameReceiver r s
   stores_too x r a =
@@ -413,14 +408,6 @@ module _ (old other : Rx) (e : SameReceiver old other) (r : Rx) where
   prohibit_too a = (
     record other { status_prohibit_runs = false },
     record { runs = sym e.prohibit ∙ a.runs; is = refl },
-    subst (λ (z : Rx). SameReceiver z (record other { status_prohibit_runs = false })) (sym a.is) (record {
-      size = e.size;
-      each = e.each;
-      highest = e.highest;
-      highest_status = e.highest_status;
-      trigger = e.trigger;
-      triggered = e.triggered;
-      polls = e.polls;
-      prohibit = refl;
-    }),
+    subst (λ (z : Rx). SameReceiver z (record other { status_prohibit_runs = false })) (sym a.is)
+        (with_flags old other e old.status_triggered other.status_triggered false false e.triggered refl),
   )

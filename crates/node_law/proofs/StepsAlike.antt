@@ -32,7 +32,7 @@ use Rattle.node_model.specs.Switching.{leads_to, is_purged, side_after, one_if, 
 use Rattle.node_model.specs.Tables.{is_open_on}
 use Rattle.node_law.specs.Alike.{SameEntity, SameOpen, SameSide, SameSides, SameNode}
 use Rattle.node_law.specs.OneOutcome.{AreSound}
-use Rattle.node_law.proofs.Alike.{same_open, SameFound, found_too, there_too, is_open_too, both_open, queue_too, side_set}
+use Rattle.node_law.proofs.Alike.{same_open, closed_alike, SameFound, found_too, there_too, is_open_too, both_open, queue_too, side_set}
 use Rattle.node_law.proofs.AtPorts.{one_hop_grant, one_hop_expiry}
 use Rattle.node_law.proofs.Receivers.{status_too, reassembly_too, prohibit_too}
 use Rattle.node_law.proofs.Relaying.{one_push, one_pull}
@@ -96,12 +96,6 @@ module _ (old other : Node) (e : SameNode old other) where
       (one.0, called p.side q.side both.0 p.entity q.entity both.1 p.tx q.tx one.1 p.rx q.rx (subst (SameReceiver p.rx) one.2 too.2) m n p.is q.is)
 
   -- a push is refused alike
-  closed_too : (x y : Option Entity) → SameOpen x y → is_none x ≡ is_none y
-  closed_too None None same = refl
-  closed_too None (Some y) same = absurd same
-  closed_too (Some x) None same = absurd same
-  closed_too (Some x) (Some y) same = refl
-
   slot_refused : (capacity : ℕ) (slot : Option Parcel) → slot_refusal capacity old slot ≡ slot_refusal capacity other slot
   slot_refused capacity None = refl
   slot_refused capacity (Some parcel) =
@@ -112,7 +106,7 @@ module _ (old other : Node) (e : SameNode old other) where
   push_refused capacity None (Some r) same = absurd same
   push_refused capacity (Some s) None same = absurd same
   push_refused capacity (Some s) (Some r) same =
-      ap (λ (b : Bool). cond b (Some pushed.NoPort) (slot_refusal capacity old s.slot)) (closed_too s.entity r.entity same.entity)
+      ap (λ (b : Bool). cond b (Some pushed.NoPort) (slot_refusal capacity old s.slot)) (closed_alike s.entity r.entity same.entity)
       ∙ ap (λ (o : Option PushReply). cond (is_none r.entity) (Some pushed.NoPort) o) (ap (slot_refusal capacity old) same.slot ∙ slot_refused capacity r.slot)
 
   push_stays : (capacity : ℕ) (port : PortName) (a : PushReply) (m : Node) → (push_refusal capacity old (side_at old port) ≡ Some a) × (m ≡ old)

@@ -29,20 +29,13 @@ use Rattle.node_model.specs.State.{PortSide, Node, entity_at}
 use Rattle.node_model.specs.Tables.{has_remote, has_bearer, has_path}
 use Rattle.node_model.proofs.Finding.{find_same}
 use Rattle.node_law.specs.Alike.{SameOpen, SameSides}
-use Rattle.node_law.proofs.Alike.{entity_too, slot_too, queue_too}
+use Rattle.node_law.proofs.Alike.{closed_alike, entity_too, slot_too, queue_too}
 use Rattle.chain_model.specs.declared.plan.Plan.{Plan}
 use Rattle.chain_model.specs.Plans.{kept_bears, entity_bears, slot_bears, plan_asks, is_at, places, busy_place}
 use Rattle.chain_model.specs.State.{Chain, node_at, plan_at, entity_on}
 use Rattle.chain_model.specs.Lines.{or_else, submit_refusal, grant_refusal, expire_refusal, open_refusal, report_refusal, plan_refusal, node_refusal, apply_refusal}
 use Rattle.step_law.specs.OneStep.{SameNodes, SameChain}
 use Rattle.step_law.proofs.Chains.{node_too}
-
--- a side is open alike
-open_alike : (x y : Option Entity) → SameOpen x y → is_none x ≡ is_none y
-open_alike None None same = refl
-open_alike None (Some y) same = absurd same
-open_alike (Some x) None same = absurd same
-open_alike (Some x) (Some y) same = refl
 
 -- the names of ports of sides that nothing tells apart
 named : (make : PortName → Place) (xs ys : List PortSide) → SameSides xs ys → map (λ (s : PortSide). make s.name) xs ≡ map (λ (s : PortSide). make s.name) ys
@@ -73,7 +66,7 @@ module _ (c d : Chain) (e : SameChain c d) where
   submit_too key = ap (λ (t : Contents). cond (not (has_bearer t key.remote key.drb)) (Some NoBearer) None) e.tables
 
   closed_too : (side : Side) (port : PortName) → is_none (entity_on c side port) ≡ is_none (entity_on d side port)
-  closed_too side port = open_alike (entity_on c side port) (entity_on d side port)
+  closed_too side port = closed_alike (entity_on c side port) (entity_on d side port)
       (entity_too (node_at c (owner side port)) (node_at d (owner side port)) (node_too c d e (owner side port)) port)
 
   -- the rest of a grant's refusals
