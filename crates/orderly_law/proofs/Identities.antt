@@ -70,12 +70,12 @@ attaches_there c x a = by (find (λ (n : Node). is_node x n.name) c.nodes) refl
     by (Some n) is i = found_in (λ (n : Node). is_node x n.name) c.nodes n is
 
 -- the identity of a path
-abbrev id_in : LocalId → Goal → LocalId
-id_in id ToDirect = id
-id_in id (ToRelay own) = own
+abbrev relay_id : LocalId → Goal → LocalId
+relay_id id ToDirect = id
+relay_id id (ToRelay own) = own
 
 same_relay : (id other : LocalId) (goal : Goal) → goal ≡ ToRelay id → goal ≡ ToRelay other → id ≡ other
-same_relay id other goal is its = sym (ap (id_in id) is) ∙ ap (id_in id) its
+same_relay id other goal is its = sym (ap (relay_id id) is) ∙ ap (relay_id id) its
 
 id_is : (a b : LocalId) → is_id a b ≡ true → a ≡ b
 id_is a b e = ap (λ (n : ℕ). let i : LocalId = record { 0 = n } in i) (eqb-true a.0 b.0 e)
