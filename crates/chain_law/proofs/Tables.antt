@@ -116,7 +116,8 @@ paths_switched r goal rows free apart a b id p q is its =
     let x = in_made (goes_to r goal) rows a p in
     let y = in_made (goes_to r goal) rows b q in
     ap (λ (row : RemoteRow). row.remote) (sym x.2) ∙ same_remote x.0 ∙ by x.0 y.0 x.1 y.1 (ap (λ (row : RemoteRow). row.goal) x.2 ∙ is)
-    (ap (λ (row : RemoteRow). row.goal) y.2 ∙ its) (cases_Bool (eqb x.0.remote.0 r.0)) (cases_Bool (eqb y.0.remote.0 r.0)) ∙ sym (same_remote y.0) ∙ ap (λ (row : RemoteRow). row.remote) y.2
+    (ap (λ (row : RemoteRow). row.goal) y.2 ∙ its) (cases_Bool (eqb x.0.remote.0 r.0)) (cases_Bool (eqb y.0.remote.0 r.0)) ∙ sym (same_remote y.0)
+    ∙ ap (λ (row : RemoteRow). row.remote) y.2
   where
     same_remote : (x : RemoteRow) → (goes_to r goal x).remote ≡ x.remote
     same_remote x = either (eqb x.remote.0 r.0)
@@ -192,16 +193,19 @@ line_apart t (Bearer r d pdcp direct) new a e =
     })
 line_apart t (Uu c size) new a e =
     let p = past _ _ _ new e in let q = past _ _ _ new p.1 in
-    subst TablesApart (same_ok _ new q.1) (record { remotes = a.remotes; bearers = a.bearers; pc5s = a.pc5s; uus = order_keeps uu_rank _ t.uus q.0 a.uus; maps = a.maps; declared = a.declared; paths = a.paths })
+    subst TablesApart (same_ok _ new q.1)
+    (record { remotes = a.remotes; bearers = a.bearers; pc5s = a.pc5s; uus = order_keeps uu_rank _ t.uus q.0 a.uus; maps = a.maps; declared = a.declared; paths = a.paths })
 line_apart t (Pc5 r c size) new a e =
     let p = past _ _ _ new e in let q = past _ _ _ new p.1 in let s = past _ _ _ new q.1 in
-    subst TablesApart (same_ok _ new s.1) (record { remotes = a.remotes; bearers = a.bearers; pc5s = order_keeps pc5_rank _ t.pc5s q.0 a.pc5s; uus = a.uus; maps = a.maps; declared = a.declared; paths = a.paths })
+    subst TablesApart (same_ok _ new s.1)
+    (record { remotes = a.remotes; bearers = a.bearers; pc5s = order_keeps pc5_rank _ t.pc5s q.0 a.pc5s; uus = a.uus; maps = a.maps; declared = a.declared; paths = a.paths })
 line_apart t (Map r d pc5 uu) new a e =
     let p = past (not (is_remote r.0 && is_drb d.0 && is_chan pc5.0 && is_chan uu.0)) _ _ new e in
     let q = past (has_row map_rank t.maps (pair r.0 d.0)) _ _ new p.1 in
     let s = past (not (has_row remote_rank t.remotes r.0 && has_row bearer_rank t.bearers (pair r.0 d.0) && has_row pc5_rank t.pc5s
     (pair r.0 pc5.0) && has_row uu_rank t.uus uu.0)) _ _ new q.1 in
-    subst TablesApart (same_ok _ new s.1) (record { remotes = a.remotes; bearers = a.bearers; pc5s = a.pc5s; uus = a.uus; maps = order_keeps map_rank _ t.maps q.0 a.maps; declared = a.declared; paths = a.paths })
+    subst TablesApart (same_ok _ new s.1)
+    (record { remotes = a.remotes; bearers = a.bearers; pc5s = a.pc5s; uus = a.uus; maps = order_keeps map_rank _ t.maps q.0 a.maps; declared = a.declared; paths = a.paths })
 line_apart t (Start key first) new a e =
     let p = past (not (is_remote key.remote.0 && is_drb key.drb.0 && nat_le first 4294967294)) _ _ new e in
     let q = past (has_row key_rank t.starts (key_rank (named_key key.remote.0 key.drb.0 key.way))) _ _ new p.1 in

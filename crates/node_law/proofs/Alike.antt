@@ -1,5 +1,5 @@
 -- What is done alike to nodes that nothing tells apart leaves such nodes.
-use Rattle.std.proofs.Common.{◌≡◌, ℕ, ◌==◌, Bool, true, false, if◌then◌else◌, List, [], ◌∷◌, fold, find, unwrap_or, Option, Some, None, refl, ◌∙◌, ap, subst}
+use Rattle.std.proofs.Common.{◌≡◌, ℕ, ◌==◌, Bool, true, false, if◌then◌else◌, List, [], ◌∷◌, fold, find, unwrap_or, Option, Some, None, is_none, option_map, option_and_then, refl, ◌∙◌, ap, subst}
 use Rattle.link_base.specs.declared.names.Key.{Key}
 use Rattle.link_base.specs.declared.names.PortName.{PortName}
 use Rattle.link_base.specs.declared.names.PortName.TheVariants.{Direct, Pc5, Uu}
@@ -9,9 +9,11 @@ use Rattle.rlc_model.specs.Sides.{Entity}
 use Rattle.rlc_law.specs.OneOutcome.{SameReceiver}
 use Rattle.pdcp_model.specs.Sender.{confirms}
 use Rattle.node_model.specs.Names.{is_port, is_key, replaced}
-use Rattle.node_model.specs.State.{PortSide, Outgoing, Incoming, Node, set_side, outgoing, incoming, no_outgoing, no_incoming, set_outgoing, set_incoming}
+use Rattle.node_model.specs.State.{PortSide, Outgoing, Incoming, Node, side_at, entity_of, entity_at, slot_of, slot_at, queue_of, queue_at, set_side, outgoing, incoming, no_outgoing, no_incoming, set_outgoing, set_incoming}
 use Rattle.node_model.specs.Ends.{confirm_count, confirm_tags}
-use Rattle.node_law.specs.Alike.{SameOpen, SameSide, SameSides, SameNode}
+use Rattle.node_model.specs.Sides.{IsOpen}
+use Rattle.node_law.specs.Alike.{SameEntity, SameOpen, SameSide, SameSides, SameNode}
+use Rattle.node_law.proofs.Relaying.{one_side}
 
 -- nothing tells one from itself
 pub same_receiver : (r : Rx) → SameReceiver r r
@@ -26,7 +28,7 @@ same_receiver r = record {
   prohibit = refl;
 }
 
-same_open : (o : Option Entity) → SameOpen o o
+pub same_open : (o : Option Entity) → SameOpen o o
 same_open None = tt
 same_open (Some e) = record { epoch = refl; tx = refl; rx = same_receiver e.rx }
 
@@ -113,3 +115,89 @@ pub tags_too : (m n : Node) → SameNode m n → (port : PortName) (tags : List 
 tags_too m n e (Direct remote drb) tags = each_too tags m n e
 tags_too m n e (Pc5 remote chan) tags = e
 tags_too m n e (Uu chan) tags = e
+
+-- one is closed where the other is
+pub closed_alike : (x y : Option Entity) → SameOpen x y → is_none x ≡ is_none y
+closed_alike None None same = refl
+closed_alike None (Some y) same = absurd same
+closed_alike (Some x) None same = absurd same
+closed_alike (Some x) (Some y) same = refl
+
+-- both are found and nothing tells them apart, or none is found
+abbrev pub SameFound : Option PortSide → Option PortSide → Type 0
+SameFound None None = Unit {0}
+SameFound (Some s) (Some r) = SameSide s r
+SameFound o p = ⊥
+
+-- the first of two, or what is found behind it
+first_or : (b : Bool) (x y : PortSide) (o p : Option PortSide) → SameSide x y → SameFound o p → SameFound (if b then Some x else o) (if b then Some y else p)
+first_or true x y o p same others = same
+first_or false x y o p same others = others
+
+-- a side is found alike
+found : (port : PortName) (xs ys : List PortSide) → SameSides xs ys → SameFound (find (λ s. is_port port s.name) xs) (find (λ s. is_port port s.name) ys)
+found port [] [] e = tt
+found port [] (y ∷ ys) e = absurd e
+found port (x ∷ xs) [] e = absurd e
+found port (x ∷ xs) (y ∷ ys) e = subst
+    (λ (z : Bool). SameFound (if is_port port x.name then Some x else find (λ s. is_port port s.name) xs) (if z then Some y else find (λ s. is_port port s.name) ys))
+    (ap (is_port port) e.0.name)
+    (first_or (is_port port x.name) x y (find (λ s. is_port port s.name) xs) (find (λ s. is_port port s.name) ys) e.0 (found port xs ys e.1))
+
+-- what is said of the side of a port at one of two nodes that nothing tells apart
+module _ (m n : Node) (e : SameNode m n) where
+  pub found_too : (port : PortName) → SameFound (side_at m port) (side_at n port)
+  found_too port = found port m.ports n.ports e.ports
+
+  pub there_too : (port : PortName) (s : PortSide) → side_at m port ≡ Some s → (r : PortSide) × (side_at n port ≡ Some r) × SameSide s r
+  there_too port s here = by (side_at n port) refl (subst (λ (o : Option PortSide). SameFound o (side_at n port)) here (found_too port))
+    where
+      by : (o : Option PortSide) → side_at n port ≡ o → SameFound (Some s) o → (r : PortSide) × (side_at n port ≡ Some r) × SameSide s r
+      by None is same = absurd same
+      by (Some r) is same = (r, is, same)
+
+  -- an open side is open at both
+  pub is_open_too : (port : PortName) (s : PortSide) (x : Entity) → IsOpen m port s x → (r : PortSide) × (y : Entity) × IsOpen n port r y × SameSide s r × SameEntity x y
+  is_open_too port s x its =
+      let there = there_too port s its.here in
+      by there.0 there.1 there.2 there.0.entity refl (subst (λ (o : Option Entity). SameOpen o there.0.entity) its.is_open there.2.entity)
+    where
+      by : (r : PortSide) → side_at n port ≡ Some r → SameSide s r → (o : Option Entity) → r.entity ≡ o → SameOpen (Some x) o
+          → (r : PortSide) × (y : Entity) × IsOpen n port r y × SameSide s r × SameEntity x y
+      by r here same None is both = absurd both
+      by r here same (Some y) is both = (r, y, record { here = here; is_open = is }, same, both)
+
+  pub both_open : (port : PortName) (s r : PortSide) (x y : Entity) → IsOpen m port s x → IsOpen n port r y → SameSide s r × SameEntity x y
+  both_open port s r x y a b =
+      let too = is_open_too port s x a in
+      let one = one_side n port too.0 r too.1 y too.2 b in
+      (subst (SameSide s) one.0 too.3, subst (SameEntity x) one.1 too.4)
+
+  -- the same entity is open, or none is
+  pub entity_too : (port : PortName) → SameOpen (entity_at m port) (entity_at n port)
+  entity_too port = by (side_at m port) (side_at n port) (found_too port)
+    where
+      by : (o p : Option PortSide) → SameFound o p → SameOpen (option_and_then entity_of o) (option_and_then entity_of p)
+      by None None same = tt
+      by None (Some r) same = absurd same
+      by (Some s) None same = absurd same
+      by (Some s) (Some r) same = same.entity
+
+  -- the slot and the queue hold the same
+  pub slot_too : (port : PortName) → slot_at m port ≡ slot_at n port
+  slot_too port = by (side_at m port) (side_at n port) (found_too port)
+    where
+      by : (o p : Option PortSide) → SameFound o p → option_and_then slot_of o ≡ option_and_then slot_of p
+      by None None same = refl
+      by None (Some r) same = absurd same
+      by (Some s) None same = absurd same
+      by (Some s) (Some r) same = same.slot
+
+  pub queue_too : (port : PortName) → queue_at m port ≡ queue_at n port
+  queue_too port = by (side_at m port) (side_at n port) (found_too port)
+    where
+      by : (o p : Option PortSide) → SameFound o p → unwrap_or (option_map queue_of o) [] ≡ unwrap_or (option_map queue_of p) []
+      by None None same = refl
+      by None (Some r) same = absurd same
+      by (Some s) None same = absurd same
+      by (Some s) (Some r) same = same.queue

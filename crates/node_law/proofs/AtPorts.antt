@@ -54,7 +54,7 @@ grant_ways tx rx n (hop.Small need) tx' rx' (inl p) = inl (made.Small need, p.0,
 grant_ways tx rx n (hop.Small need) tx' rx' (inr p) = inr (sent.Small need, p.0, p.1, p.2, refl)
 
 -- so a grant has one outcome
-one_hop_grant : (tx : Tx) (rx : Rx) → IsSound rx → (n : ℕ) (a b : HopGrant) (tx' tx'' : Tx) (rx' rx'' : Rx) → GrantsHop tx rx n a tx' rx' → GrantsHop tx rx n b tx'' rx''
+pub one_hop_grant : (tx : Tx) (rx : Rx) → IsSound rx → (n : ℕ) (a b : HopGrant) (tx' tx'' : Tx) (rx' rx'' : Rx) → GrantsHop tx rx n a tx' rx' → GrantsHop tx rx n b tx'' rx''
     → (a ≡ b) × (tx' ≡ tx'') × (rx' ≡ rx'')
 one_hop_grant tx rx sound n a b tx' tx'' rx' rx'' p q = elim (grant_ways tx rx n a tx' rx' p) [
   | inl x ↦ elim (grant_ways tx rx n b tx'' rx'' q) [
@@ -138,7 +138,7 @@ one_prohibit rx expiry.Stopped expiry.Done r s p q = absurd (false≢true (sym p
 one_prohibit rx expiry.Stopped (expiry.Marked n) r s p q = absurd q
 one_prohibit rx expiry.Stopped expiry.Stopped r s p q = (refl, p.1 ∙ sym q.1)
 
-one_hop_expiry : (timer : Timer) (tx : Tx) (rx : Rx) (a b : Expired) (tx' tx'' : Tx) (rx' rx'' : Rx) → ExpiresHop tx rx timer a tx' rx'
+pub one_hop_expiry : (timer : Timer) (tx : Tx) (rx : Rx) (a b : Expired) (tx' tx'' : Tx) (rx' rx'' : Rx) → ExpiresHop tx rx timer a tx' rx'
     → ExpiresHop tx rx timer b tx'' rx'' → (a ≡ b) × (tx' ≡ tx'') × (rx' ≡ rx'')
 one_hop_expiry Poll tx rx a b tx' tx'' rx' rx'' p q = let same = one_poll tx a b tx' tx'' p.0 q.0 in (same.0, same.1, p.1 ∙ sym q.1)
 one_hop_expiry Reasm tx rx a b tx' tx'' rx' rx'' p q = let same = one_reasm rx a b rx' rx'' p.0 q.0 in (same.0, p.1 ∙ sym q.1, same.1)

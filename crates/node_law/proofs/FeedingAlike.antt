@@ -1,5 +1,5 @@
 -- Nodes that nothing tells apart feed alike.
-use Rattle.std.proofs.Common.{◌≡◌, ℕ, ◌+◌, Bool, true, false, ◌&&◌, nat_lt, if◌then◌else◌, List, [], ◌∷◌, map, find, Option, Some, None, option_and_then, refl, sym, ◌∙◌, ap, subst}
+use Rattle.std.proofs.Common.{◌≡◌, ℕ, ◌+◌, Bool, false, ◌&&◌, nat_lt, List, [], ◌∷◌, map, Option, Some, None, refl, sym, ◌∙◌, ap, subst}
 use Rattle.link_base.specs.declared.names.Key.{Key}
 use Rattle.link_base.specs.declared.names.LocalId.{LocalId}
 use Rattle.link_base.specs.declared.names.PortName.{PortName}
@@ -11,56 +11,21 @@ use Rattle.pdcp_pdu.specs.Pdcp.{Report, pdcp_bytes}
 use Rattle.rlc_model.specs.Tx.{Tx, room, Gives}
 use Rattle.rlc_model.specs.Sides.{Entity}
 use Rattle.pdcp_model.specs.Sender.{next, has_next, data_pdu, gave_next}
-use Rattle.node_model.specs.Names.{back, is_port}
-use Rattle.node_model.specs.State.{PortSide, Outgoing, Incoming, Node, side_at, entity_of, entity_at, id_in, id_at, outgoing, incoming, set_entity, set_outgoing, set_incoming}
-use Rattle.node_model.specs.Sides.{IsOpen}
+use Rattle.node_model.specs.Names.{back}
+use Rattle.node_model.specs.State.{Outgoing, Incoming, Node, entity_at, id_in, id_at, outgoing, incoming, set_entity, set_outgoing, set_incoming}
 use Rattle.node_model.specs.Feeding.{port_on, first_hop, under, room_of, room_at, has_room, tag_of, wants_report, GivesPdu, GivesReport, FeedsReport, unwanted, dropped, no_room, FeedsReports, GivesData, FeedsData, rests, FeedsEach, in_key, out_key}
 use Rattle.node_model.specs.Feeding.FeedsReport.{gives as gives_report}
 use Rattle.node_model.specs.Feeding.FeedsData.{gives}
-use Rattle.node_law.specs.Alike.{SameEntity, SameOpen, SameSide, SameSides, SameNode}
+use Rattle.node_law.specs.Alike.{SameOpen, SameNode}
 use Rattle.node_law.specs.OneOutcome.{FeedsAlike}
-use Rattle.node_law.proofs.Alike.{side_set, out_too, in_too, out_set, in_set}
+use Rattle.node_law.proofs.Alike.{side_set, is_open_too, entity_too, out_too, in_too, out_set, in_set}
 use Rattle.node_law.proofs.Feeding.{one_feeding}
-
--- both are found and nothing tells them apart, or none is found
-abbrev SameFound : Option PortSide → Option PortSide → Type 0
-SameFound None None = Unit {0}
-SameFound (Some s) (Some r) = SameSide s r
-SameFound o p = ⊥
-
--- the first of two, or what is found behind it
-first_or : (b : Bool) (x y : PortSide) (o p : Option PortSide) → SameSide x y → SameFound o p → SameFound (if b then Some x else o) (if b then Some y else p)
-first_or true x y o p same others = same
-first_or false x y o p same others = others
-
--- a side is found alike
-found : (port : PortName) (xs ys : List PortSide) → SameSides xs ys → SameFound (find (λ s. is_port port s.name) xs) (find (λ s. is_port port s.name) ys)
-found port [] [] e = tt
-found port [] (y ∷ ys) e = absurd e
-found port (x ∷ xs) [] e = absurd e
-found port (x ∷ xs) (y ∷ ys) e = subst
-    (λ (z : Bool). SameFound (if is_port port x.name then Some x else find (λ s. is_port port s.name) xs) (if z then Some y else find (λ s. is_port port s.name) ys))
-    (ap (is_port port) e.0.name)
-    (first_or (is_port port x.name) x y (find (λ s. is_port port s.name) xs) (find (λ s. is_port port s.name) ys) e.0 (found port xs ys e.1))
 
 -- a tag with this identity
 abbrev with_id : Key → Option ℕ → Option LocalId → Tag
 with_id key count id = record { key = key; count = count; ue = id }
 
 module _ (m n : Node) (e : SameNode m n) where
-  -- an open side is open at both
-  is_open_too : (port : PortName) (s : PortSide) (x : Entity) → IsOpen m port s x → (r : PortSide) × (y : Entity) × IsOpen n port r y × SameSide s r × SameEntity x y
-  is_open_too port s x its = there (side_at n port) refl (subst (λ (o : Option PortSide). SameFound o (side_at n port)) its.here (found port m.ports n.ports e.ports))
-    where
-      its_entity : (r : PortSide) → side_at n port ≡ Some r → SameSide s r → (o : Option Entity) → r.entity ≡ o → SameOpen (Some x) o
-          → (r : PortSide) × (y : Entity) × IsOpen n port r y × SameSide s r × SameEntity x y
-      its_entity r here same None is both = absurd both
-      its_entity r here same (Some y) is both = (r, y, record { here = here; is_open = is }, same, both)
-
-      there : (o : Option PortSide) → side_at n port ≡ o → SameFound (Some s) o → (r : PortSide) × (y : Entity) × IsOpen n port r y × SameSide s r × SameEntity x y
-      there None is same = absurd same
-      there (Some r) is same = its_entity r is same r.entity refl (subst (λ (o : Option Entity). SameOpen o r.entity) its.is_open same.entity)
-
   -- both have the same room
   room_in : (o p : Option Entity) → SameOpen o p → room_of o ≡ room_of p
   room_in None None same = refl
@@ -68,15 +33,9 @@ module _ (m n : Node) (e : SameNode m n) where
   room_in (Some x) None same = absurd same
   room_in (Some x) (Some y) same = ap room same.tx
 
-  entities : (o p : Option PortSide) → SameFound o p → SameOpen (option_and_then entity_of o) (option_and_then entity_of p)
-  entities None None same = tt
-  entities None (Some r) same = absurd same
-  entities (Some s) None same = absurd same
-  entities (Some s) (Some r) same = same.entity
-
   room_too : (port : Option PortName) → room_at m port ≡ room_at n port
   room_too None = refl
-  room_too (Some port) = room_in (entity_at m port) (entity_at n port) (entities (side_at m port) (side_at n port) (found port m.ports n.ports e.ports))
+  room_too (Some port) = room_in (entity_at m port) (entity_at n port) (entity_too m n e port)
 
   -- both attach the same identity to a remote, and so have the same first hop
   id_too : (remote : Remote) → id_at m remote ≡ id_at n remote
@@ -97,7 +56,7 @@ module _ (m n : Node) (e : SameNode m n) where
   -- a PDU is given alike
   gives_too : (t : Contents) (key : Key) (tag : Tag) (pdu : List ℕ) (m' : Node) → GivesPdu t m key tag pdu m' → (n' : Node) × GivesPdu t n key tag pdu n' × SameNode m' n'
   gives_too t key tag pdu m' p =
-      let its = is_open_too p.port p.side p.entity p.its in
+      let its = is_open_too m n e p.port p.side p.entity p.its in
       let n' = set_entity n its.0 (record its.1 { tx = p.tx }) in (
         n',
         record {

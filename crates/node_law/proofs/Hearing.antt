@@ -1,5 +1,5 @@
 -- A PDU that comes to a node has one answer, and leaves nodes that nothing tells apart.
-use Rattle.std.proofs.Common.{◌≡◌, inl, inr, ℕ, List, Option, Some, None, refl, sym, ◌∙◌, ap, subst}
+use Rattle.std.proofs.Common.{◌≡◌, inl, inr, ℕ, cond, List, Option, Some, None, refl, sym, ◌∙◌, ap, subst}
 use Rattle.std.specs.declared.result.Result.{Result}
 use Rattle.std.specs.declared.result.Result.TheVariants.{Ok, Err}
 use Rattle.std.proofs.lemmas.Option.{same_Some}
@@ -8,6 +8,7 @@ use Rattle.link_base.specs.declared.names.Key.{Key}
 use Rattle.link_base.specs.declared.names.PortName.{PortName}
 use Rattle.link_base.specs.declared.names.PortName.TheVariants.{Direct, Pc5, Uu}
 use Rattle.link_base.specs.declared.names.Side.{Side}
+use Rattle.link_base.specs.declared.names.SnSize.{SnSize}
 use Rattle.link_base.specs.declared.names.Side.TheVariants.{Low, High}
 use Rattle.srap_header.specs.Srap.{Srap}
 use Rattle.bearer_map.specs.declared.ids.Attachment.{Attachment}
@@ -15,24 +16,26 @@ use Rattle.bearer_map.specs.Contents.{Contents, map_rank}
 use Rattle.bearer_map.specs.Ids.{AreIds}
 use Rattle.bearer_map.specs.Order.{IsAscending}
 use Rattle.bearer_map.specs.Routes.{UpRoute, DownRoute, GnbRoute}
-use Rattle.rlc_pdu.specs.Amd.{Amd}
+use Rattle.rlc_pdu.specs.Amd.{Amd, IsAmd, IsAmdFault}
 use Rattle.rlc_pdu.specs.declared.amd.AmdFault.{AmdFault}
 use Rattle.rlc_pdu.proofs.Reading.{one_reading as one_amd, not_both}
 use Rattle.rlc_status.specs.declared.status.Status.{Status}
 use Rattle.rlc_status.specs.declared.fault.StatusFault.{StatusFault}
 use Rattle.rlc_status.proofs.Unique.{one_reading as one_status}
 use Rattle.rlc_status.proofs.Faults.{no_fault, one_fault}
+use Rattle.rlc_model.specs.declared.hop.AirFault.{AirFault}
 use Rattle.rlc_model.specs.declared.hop.HopHeard.{HopHeard}
 use Rattle.rlc_model.specs.declared.hop.HopHeard.TheVariants as hop
+use Rattle.rlc_model.specs.declared.hop.Pdu.{Pdu}
 use Rattle.rlc_model.specs.declared.receiver.Heard.{Heard}
 use Rattle.rlc_model.specs.declared.receiver.Heard.TheVariants as heard
 use Rattle.rlc_model.specs.declared.transmitter.StatusHeard.{StatusHeard}
 use Rattle.rlc_model.specs.declared.transmitter.StatusHeard.TheVariants as told
-use Rattle.rlc_model.specs.Tx.{Tx}
-use Rattle.rlc_model.specs.Rx.{Rx, Hears}
+use Rattle.rlc_model.specs.Tx.{Tx, tx_next_ack}
+use Rattle.rlc_model.specs.Rx.{Rx, rx_next, Hears}
 use Rattle.rlc_model.specs.Retransmission.{HearsStatus}
 use Rattle.rlc_model.specs.Sides.{Entity}
-use Rattle.rlc_model.specs.Hop.{HearsHop}
+use Rattle.rlc_model.specs.Hop.{air_fault, side_fault, HearsHop}
 use Rattle.rlc_law.specs.OneOutcome.{SameReceiver}
 use Rattle.rlc_law.proofs.OneReceiver.{one_hearing}
 use Rattle.rlc_law.proofs.OneStatus.{one_status_hearing}
@@ -45,11 +48,11 @@ use Rattle.node_model.specs.Names.{back}
 use Rattle.node_model.specs.State.{PortSide, Outgoing, Incoming, Node, id_in, set_side, set_entity, side_at, outgoing, incoming, set_outgoing, set_incoming}
 use Rattle.node_model.specs.Routing.{Target, ToPdcp, Onward, EndsHere, GoesOn, LeadsByHeader, LeadsUnderSrap, Leads}
 use Rattle.node_model.specs.Ends.{HearsSdu, HearsReport, HearsPdcp, data_pdu, report, neither, confirm_tags}
-use Rattle.node_model.specs.Hearing.{Passes, Follows, HearsSide, HearsUnless, hear_refusal}
-use Rattle.node_law.specs.Alike.{SameEntity, SameSide, SameNode}
-use Rattle.node_law.specs.OneOutcome.{OneTarget, OnePdcpHearing, OneNodeHearing}
-use Rattle.node_law.proofs.Alike.{same_receiver, alike, side_set, out_too, in_too, out_set, in_set, tags_too}
-use Rattle.node_law.proofs.Relaying.{one_side}
+use Rattle.node_model.specs.Hearing.{Passes, Follows, HearsSide, HearsUnless, entity_fault, slot_fault, side_refusal, hear_refusal}
+use Rattle.node_law.specs.Alike.{SameEntity, SameOpen, SameSide, SameNode}
+use Rattle.node_law.specs.OneOutcome.{OneTarget, OnePdcpHearing, OneNodeHearing, NodesHearAlike}
+use Rattle.node_law.proofs.Alike.{same_receiver, alike, SameFound, found_too, both_open, side_set, out_too, in_too, out_set, in_set, tags_too}
+use Rattle.node_law.proofs.Receivers.{same_on, next_too, hears_too}
 
 -- the octets have one answer of an entity
 one_hop : (tx : Tx) (rx : Rx) (bytes : List ℕ) (a b : HopHeard) (t u : Tx) (r s : Rx) → HearsHop tx rx bytes a t r → HearsHop tx rx bytes b u s
@@ -76,6 +79,17 @@ one_hop tx rx bytes (hop.BadStatus f) (hop.Status b) t u r s p q = absurd (no_fa
 one_hop tx rx bytes (hop.BadStatus f) (hop.BadAmd g) t u r s p q = absurd (q.0 p.0)
 one_hop tx rx bytes (hop.BadStatus f) (hop.BadStatus g) t u r s p q =
     (ap (λ (x : StatusFault). hop.BadStatus x) (one_fault tx.size bytes f g p.2 q.2), p.3 ∙ sym q.3, subst (SameReceiver r) (p.4 ∙ sym q.4) (same_receiver r))
+
+-- what a side hears, one hears that nothing tells apart from it
+hop_too : (tx : Tx) (rx other : Rx) → SameReceiver rx other → (bytes : List ℕ) (a : HopHeard) (t : Tx) (r : Rx) → HearsHop tx rx bytes a t r
+    → (s : Rx) × HearsHop tx other bytes a t s × SameReceiver r s
+hop_too tx rx other e bytes (hop.Amd a) t r p =
+    let too = hears_too rx other e p.1 a r p.3 in
+    (too.0, (p.0, p.1, subst (λ (z : SnSize). IsAmd z p.1 bytes) e.size p.2, too.1, p.4), too.2)
+hop_too tx rx other e bytes (hop.Status a) t r p = (other, (p.0, p.1, p.2, p.3, refl), subst (λ (z : Rx). SameReceiver z other) (sym p.4) e)
+hop_too tx rx other e bytes (hop.BadAmd f) t r p =
+    (other, (p.0, subst (λ (z : SnSize). IsAmdFault z bytes f) e.size p.1, p.2, refl), subst (λ (z : Rx). SameReceiver z other) (sym p.3) e)
+hop_too tx rx other e bytes (hop.BadStatus f) t r p = (other, (p.0, p.1, p.2, p.3, refl), subst (λ (z : Rx). SameReceiver z other) (sym p.4) e)
 
 -- an SDU leads to the same place at nodes with the same attachments
 header_too : (t : Contents) (m n : Node) → m.attached ≡ n.attached → (at : Side) (port : PortName) (v : Srap) (target : Result Target Discard)
@@ -192,34 +206,53 @@ module _ (one_target : OneTarget) (one_pdcp : OnePdcpHearing) (t : Contents) (m 
   follows rows ids at (hop.BadAmd f) a b m' n' p q = stays (hop.BadAmd f) a b m' n' p q
   follows rows ids at (hop.BadStatus f) a b m' n' p q = stays (hop.BadStatus f) a b m' n' p q
 
--- an open side hears octets alike
-one_side_hearing : OneTarget → OnePdcpHearing → (t : Contents) (old : Node) → IsAscending map_rank t.maps → AreIds old.attached
+-- open sides hear octets alike
+sides_hear : OneTarget → OnePdcpHearing → (t : Contents) (old other : Node) → SameNode old other → IsAscending map_rank t.maps → AreIds other.attached
     → (at : Side) (port : PortName) (bytes : List ℕ) (a b : NodeHeard) (m n : Node)
-    → HearsSide t old at port bytes a m → HearsSide t old at port bytes b n → (a ≡ b) × SameNode m n
-one_side_hearing one_target one_pdcp t old rows ids at port bytes a b m n p q =
-    let is_open = one_side old port p.side q.side p.entity q.entity p.its q.its in
-    let heard_as = one_hop q.entity.tx q.entity.rx bytes p.hop q.hop p.tx q.tx p.rx q.rx
-    (subst (λ (x : Entity). HearsHop x.tx x.rx bytes p.hop p.tx p.rx) is_open.1 p.hears) q.hears in
+    → HearsSide t old at port bytes a m → HearsSide t other at port bytes b n → (a ≡ b) × SameNode m n
+sides_hear one_target one_pdcp t old other e rows ids at port bytes a b m n p q =
+    let both = both_open old other e port p.side q.side p.entity q.entity p.its q.its in
+    let too = hop_too p.entity.tx p.entity.rx q.entity.rx both.1.rx bytes p.hop p.tx p.rx p.hears in
+    let heard_as = one_hop q.entity.tx q.entity.rx bytes p.hop q.hop p.tx q.tx too.0 q.rx
+    (subst (λ (z : Tx). HearsHop z q.entity.rx bytes p.hop p.tx too.0) both.1.tx too.1) q.hears in
     let behind : SameEntity p.behind q.behind = subst (λ (z : Entity). SameEntity z q.behind) (sym p.its_entity)
     (subst (SameEntity (record p.entity { tx = p.tx; rx = p.rx })) (sym q.its_entity)
-    (record { epoch = ap (λ (x : Entity). x.epoch) is_open.1; tx = heard_as.1; rx = heard_as.2 })) in
+    (record { epoch = both.1.epoch; tx = heard_as.1; rx = same_on p.rx too.0 q.rx too.2 heard_as.2 })) in
     let p_side = record p.side { entity = Some p.behind } in
     let q_side = record q.side { entity = Some q.behind } in
-    let same : SameSide p_side q_side = record {
-      name = ap (λ (x : PortSide). x.name) is_open.0;
-      size = ap (λ (x : PortSide). x.size) is_open.0;
-      slot = ap (λ (x : PortSide). x.slot) is_open.0;
-      queue = ap (λ (x : PortSide). x.queue) is_open.0;
-      entity = behind;
-    } in
-    let nodes : SameNode (set_entity old p.side p.behind) (set_entity old q.side q.behind) = side_set old old (alike old old refl) p_side q_side same in
-    follows one_target one_pdcp t (set_entity old p.side p.behind) (set_entity old q.side q.behind) nodes p_side q_side same rows ids at q.hop a b m n
+    let same : SameSide p_side q_side = record { name = both.0.name; size = both.0.size; slot = both.0.slot; queue = both.0.queue; entity = behind } in
+    let nodes : SameNode (set_entity old p.side p.behind) (set_entity other q.side q.behind) = side_set old other e p_side q_side same in
+    follows one_target one_pdcp t (set_entity old p.side p.behind) (set_entity other q.side q.behind) nodes p_side q_side same rows ids at q.hop a b m n
     (subst (λ (x : HopHeard). Follows t (set_entity old p.side p.behind) at p_side x a m) heard_as.0 p.follows) q.follows
 
--- a PDU is refused, or heard
-pub one_node_hearing : OneTarget → OnePdcpHearing → OneNodeHearing
-one_node_hearing one_target one_pdcp t old at pdu a b m n rows ids p q = go (hear_refusal pdu (side_at old pdu.port)) p q
+-- why a side doesn't hear a PDU
+fault_too : (pdu : Pdu) (o p : Option Entity) → SameOpen o p → entity_fault pdu o ≡ entity_fault pdu p
+fault_too pdu None None same = refl
+fault_too pdu None (Some y) same = absurd same
+fault_too pdu (Some x) None same = absurd same
+fault_too pdu (Some x) (Some y) same =
+    ap (λ (n : ℕ). side_fault pdu (Some n) x.tx x.rx) same.epoch ∙ ap (λ (t : Tx). side_fault pdu (Some y.epoch) t x.rx) same.tx
+    ∙ ap (λ (z : SnSize). cond pdu.status (air_fault y.tx.size pdu (Some y.epoch) (tx_next_ack y.tx)) (air_fault z pdu (Some y.epoch) (rx_next x.rx))) same.rx.size
+    ∙ ap (λ (n : ℕ). cond pdu.status (air_fault y.tx.size pdu (Some y.epoch) (tx_next_ack y.tx)) (air_fault y.rx.size pdu (Some y.epoch) n)) (next_too x.rx y.rx same.rx)
+
+refusal_too : (pdu : Pdu) (o p : Option PortSide) → SameFound o p → hear_refusal pdu o ≡ hear_refusal pdu p
+refusal_too pdu None None same = refl
+refusal_too pdu None (Some r) same = absurd same
+refusal_too pdu (Some s) None same = absurd same
+refusal_too pdu (Some s) (Some r) same = by (entity_fault pdu s.entity) ∙ ap (side_refusal pdu r) (fault_too pdu s.entity r.entity same.entity)
   where
-    go : (refusal : Option NodeHeard) → HearsUnless refusal t old at pdu a m → HearsUnless refusal t old at pdu b n → (a ≡ b) × SameNode m n
-    go (Some refusal) p q = (p.0 ∙ sym q.0, alike m n (p.1 ∙ sym q.1))
-    go None p q = one_side_hearing one_target one_pdcp t old rows ids at pdu.port pdu.bytes a b m n p q
+    by : (fault : Option AirFault) → side_refusal pdu s fault ≡ side_refusal pdu r fault
+    by (Some fault) = refl
+    by None = ap (slot_fault pdu) same.slot
+
+-- a PDU is refused, or heard
+pub nodes_hear : OneTarget → OnePdcpHearing → NodesHearAlike
+nodes_hear one_target one_pdcp t old other e at pdu a b m n rows ids p q =
+    go (hear_refusal pdu (side_at other pdu.port)) (subst (λ (z : Option NodeHeard). HearsUnless z t old at pdu a m) (refusal_too pdu (side_at old pdu.port) (side_at other pdu.port) (found_too old other e pdu.port)) p) q
+  where
+    go : (refusal : Option NodeHeard) → HearsUnless refusal t old at pdu a m → HearsUnless refusal t other at pdu b n → (a ≡ b) × SameNode m n
+    go (Some refusal) p q = (p.0 ∙ sym q.0, subst (λ (z : Node). SameNode z n) (sym p.1) (subst (SameNode old) (sym q.1) e))
+    go None p q = sides_hear one_target one_pdcp t old other e rows ids at pdu.port pdu.bytes a b m n p q
+
+pub one_node_hearing : OneTarget → OnePdcpHearing → OneNodeHearing
+one_node_hearing one_target one_pdcp t old at pdu a b m n rows ids p q = nodes_hear one_target one_pdcp t old old (alike old old refl) at pdu a b m n rows ids p q

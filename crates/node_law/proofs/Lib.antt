@@ -5,5 +5,7 @@ pub mod Targets
 pub mod AtEnds
 pub mod AtPorts
 pub mod Alike
+pub mod Receivers
 pub mod Hearing
 pub mod FeedingAlike
+pub mod StepsAlike

@@ -72,3 +72,9 @@ OneNodeHearing =
 abbrev pub FeedsAlike : Type 0
 FeedsAlike = (t : Contents) (old other : Node) → SameNode old other → (given given' : List Key) (m n : Node) → Feeds t old given m → Feeds t other given' n
     → (given ≡ given') × SameNode m n
+
+-- nodes that nothing tells apart answer a PDU alike, over such rows and attachments
+abbrev pub NodesHearAlike : Type 0
+NodesHearAlike =
+    (t : Contents) (old other : Node) → SameNode old other → (at : Side) (pdu : Pdu) (a b : NodeHeard) (m n : Node) → IsAscending map_rank t.maps → AreIds other.attached
+    → HearsPdu t old at pdu a m → HearsPdu t other at pdu b n → (a ≡ b) × SameNode m n

@@ -1,5 +1,5 @@
 // Each step of a node is determined.
-ghost use Rattle.node_law.specs.OneOutcome.{OnePush, OnePull, OneFeeding, OnePortGrant, OnePortExpiry, OneTarget, OnePdcpHearing, OneNodeHearing, FeedsAlike};
+ghost use Rattle.node_law.specs.OneOutcome.{OnePush, OnePull, OneFeeding, OnePortGrant, OnePortExpiry, OneTarget, OnePdcpHearing, OneNodeHearing, NodesHearAlike, FeedsAlike};
 
 /// A law: a push and a pull of the relay have one answer each, and leave one node.
 pub fn relaying_has_one_outcome()
@@ -40,10 +40,11 @@ pub fn a_pdcp_pdu_has_one_answer()
 }
 
 /// A law: a PDU that comes to a node has one answer and leaves one state, as far as what is got of each RLC number, place by
-/// place, and the variables tell. This is said over map rows in order and attachments that share neither a remote nor a local
-/// identity.
+/// place, and the variables tell. Nodes that nothing tells apart answer it alike, and leave such nodes. This is said over map
+/// rows in order and attachments that share neither a remote nor a local identity.
 pub fn hearing_has_one_outcome()
-    ensures { OneNodeHearing }
+    ensures one { OneNodeHearing }
+    ensures alike { NodesHearAlike }
 {
     an_sdu_leads_to_one_target();
     a_pdcp_pdu_has_one_answer();

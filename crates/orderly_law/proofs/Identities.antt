@@ -70,12 +70,12 @@ attaches_there c x a = by (find (λ (n : Node). is_node x n.name) c.nodes) refl
     by (Some n) is i = found_in (λ (n : Node). is_node x n.name) c.nodes n is
 
 -- the identity of a path
-abbrev id_in : LocalId → Goal → LocalId
-id_in id ToDirect = id
-id_in id (ToRelay own) = own
+abbrev relay_id : LocalId → Goal → LocalId
+relay_id id ToDirect = id
+relay_id id (ToRelay own) = own
 
 same_relay : (id other : LocalId) (goal : Goal) → goal ≡ ToRelay id → goal ≡ ToRelay other → id ≡ other
-same_relay id other goal is its = sym (ap (id_in id) is) ∙ ap (id_in id) its
+same_relay id other goal is its = sym (ap (relay_id id) is) ∙ ap (relay_id id) its
 
 id_is : (a b : LocalId) → is_id a b ≡ true → a ≡ b
 id_is a b e = ap (λ (n : ℕ). let i : LocalId = record { 0 = n } in i) (eqb-true a.0 b.0 e)
@@ -193,7 +193,8 @@ none_mapped f (Some x) e = absurd (none-some (f x) (sym e))
 -- a plan that isn't refused
 module _ (old : Chain) (remote : Remote) (goal : Goal) (fit : IdsFit old) (none : plan_refusal old remote goal ≡ None) where
   there : (has_remote old.tables remote ≡ true)
-      × (or_else (open_refusal (plan_at old remote)) (cond (not (has_path old.tables remote goal)) (Some NoTable) (option_map (λ (place : Place). IdBusy place) (busy_place old goal))) ≡ None)
+      × (or_else (open_refusal (plan_at old remote))
+      (cond (not (has_path old.tables remote goal)) (Some NoTable) (option_map (λ (place : Place). IdBusy place) (busy_place old goal))) ≡ None)
   there = no_refusal (has_remote old.tables remote) NoRemote _ none
 
   free : busy_place old goal ≡ None
@@ -233,13 +234,15 @@ module _ (old : Chain) (remote : Remote) (goal : Goal) (fit : IdsFit old) (none 
 
       by : Reserves old s id → ⊥
       by (attached x a) =
-          let none_here = clear (Attached row.0.remote) (in_first attachings plannings (Attached row.0.remote) (made_in (λ (row : RemoteRow). Attached row.remote) old.tables.remotes row.0 row.1)) in
+          let none_here = clear (Attached row.0.remote) (in_first attachings plannings (Attached row.0.remote)
+          (made_in (λ (row : RemoteRow). Attached row.remote) old.tables.remotes row.0 row.1)) in
           let at_node = none_passes (λ (n : Node). list_any (λ (a : Attachment). is_remote row.0.remote a.remote && is_id id a.id) n.attached) old.nodes (node_at old x) none_here
           (attaches_there old x (attachment s id) a) in
           let at_item = none_passes (λ (a : Attachment). is_remote row.0.remote a.remote && is_id id a.id) (node_at old x).attached (attachment s id) at_node a in
           true≢false (sym (and_from _ _ (ap (is_remote row.0.remote) own ∙ remote_refl row.0.remote) (eq-eqb id.0 id.0 refl)) ∙ at_item)
       by (planned p) =
-          let none_here = clear (Planned row.0.remote) (in_second attachings plannings (Planned row.0.remote) (made_in (λ (row : RemoteRow). Planned row.remote) old.tables.remotes row.0 row.1)) in
+          let none_here = clear (Planned row.0.remote) (in_second attachings plannings (Planned row.0.remote)
+          (made_in (λ (row : RemoteRow). Planned row.remote) old.tables.remotes row.0 row.1)) in
           true≢false (sym p ∙ ap (λ (r : Remote). plan_asks id (plan_at old r)) own ∙ none_here)
 
   -- and leaves identities apart
@@ -267,7 +270,8 @@ module _ (old : Chain) (remote : Remote) (goal : Goal) (fit : IdsFit old) (none 
       was r id (attached x a) = inr (attached x a)
       was r id (planned e) = asked r id (plan_at now r) refl e
 
-      either : (r s : Remote) (id : LocalId) → ((r ≡ remote) × (asks_for id goal ≡ true)) ⊎ Reserves old r id → ((s ≡ remote) × (asks_for id goal ≡ true)) ⊎ Reserves old s id → r ≡ s
+      either : (r s : Remote) (id : LocalId) → ((r ≡ remote) × (asks_for id goal ≡ true)) ⊎ Reserves old r id → ((s ≡ remote) × (asks_for id goal ≡ true)) ⊎ Reserves old s id
+          → r ≡ s
       either r s id (inl a) (inl b) = a.0 ∙ sym b.0
       either r s id (inl a) (inr b) = absurd (unreserved s id b a.1)
       either r s id (inr a) (inl b) = absurd (unreserved r id a b.1)
@@ -324,7 +328,8 @@ module _ (old : Chain) (remote : Remote) (kind : NodeKind) (fit : IdsFit old) (n
   applied = set_plan (set_node old now) (marks a.plan kind)
 
   -- what is attached then
-  attaches_was : (x : NodeName) (r : Remote) (id : LocalId) → Attaches applied x r id → Attaches old x r id ⊎ (((r ≡ remote → ⊥) × Attaches old y r id) ⊎ ((r ≡ remote) × (a.plan.goal ≡ ToRelay id)))
+  attaches_was : (x : NodeName) (r : Remote) (id : LocalId) → Attaches applied x r id → Attaches old x r id
+      ⊎ (((r ≡ remote → ⊥) × Attaches old y r id) ⊎ ((r ≡ remote) × (a.plan.goal ≡ ToRelay id)))
   attaches_was x r id i = elim (set_or_kept old y now (node_name old y) x) [
     | inl set ↦ inr (attached_was remote a.plan.goal (node_at old y).attached r id (subst (λ (n : Node). IsIn n.attached (attachment r id)) set i))
     | inr kept ↦ inl (subst (λ (n : Node). IsIn n.attached (attachment r id)) kept i)

@@ -1,3 +1,4 @@
 pub mod Found
 pub mod Identities
 pub mod Ordered
+pub mod Outcomes

@@ -1,7 +1,8 @@
 // What each run keeps in order.
-ghost use Rattle.orderly_law.specs.Laws.{SidesAreFound, RunsKeepChainsOrderly};
+ghost use Rattle.orderly_law.specs.Laws.{SidesAreFound, RunsKeepChainsOrderly, RunsHaveOneOutcome};
 
 use chain_law::laws_of_ports;
+use step_law::a_step_has_one_outcome;
 
 /// A law: at each node of each chain that comes up in a run no name of a port stands twice, so each side is found by its port's
 /// name; and the node is the owner of that side of the port.
@@ -18,4 +19,13 @@ pub fn runs_keep_chains_orderly()
     ensures { RunsKeepChainsOrderly }
 {
     laws_of_ports();
+}
+
+/// A law: two runs over the same lines are answered alike, line by line, and lead to chains that nothing tells apart. This is
+/// said of lines none of which is `burst`, whose definition leaves the order of the relay's ports open, or `drain`.
+pub fn runs_have_one_outcome()
+    ensures { RunsHaveOneOutcome }
+{
+    runs_keep_chains_orderly();
+    a_step_has_one_outcome();
 }

@@ -1,4 +1,5 @@
 pub mod Chains
+pub mod Refused
 pub mod Tells
 pub mod Lines
 pub mod Steps

@@ -47,6 +47,12 @@ OneStep =
     (old : Chain) → IsOrderly old → (line : Line) → is_burst line ≡ false → (es fs : List Event) (a b : Reply) (m n : Chain)
     → Step old line es a m → Step old line fs b n → (es ≡ fs) × (a ≡ b) × SameChain m n
 
+-- it brings about the same from chains that nothing tells apart, and leaves such chains
+abbrev pub StepsAlike : Type 0
+StepsAlike =
+    (old other : Chain) → SameChain old other → IsOrderly other → (line : Line) → is_burst line ≡ false → (es fs : List Event) (a b : Reply) (m n : Chain)
+    → Step old line es a m → Step other line fs b n → (es ≡ fs) × (a ≡ b) × SameChain m n
+
 -- the chains from which the worked runs begin are orderly
 abbrev pub WorkedChainsAreOrderly : Type 0
 WorkedChainsAreOrderly = (goal : Goal) → IsOrderly (opened (tables_on goal))
