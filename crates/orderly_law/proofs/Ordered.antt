@@ -24,6 +24,7 @@ use Rattle.chain_model.specs.Lines.{plan_refusal, Plans, apply_refusal, Applies,
 use Rattle.chain_law.specs.Foundations.{RlcLaws}
 use Rattle.chain_law.specs.Laws.{ComesUp}
 use Rattle.chain_law.proofs.Chains.{Holds, node_fits, node_name}
+use Rattle.chain_law.proofs.Stands.{Logs}
 use Rattle.chain_law.proofs.Laws.{comes_hold}
 use Rattle.chain_law.proofs.Lines.{unless_keeps}
 use Rattle.chain_law.proofs.Members.{contained}
@@ -88,7 +89,7 @@ are_ids c f name = record {
 }
 
 -- the receiver of an open side is that of a hop that can be reached
-are_sound : (c : Chain) → Holds c → (name : NodeName) → AreSound (node_at c name)
+are_sound : {q : Logs} (c : Chain) → Holds q c → (name : NodeName) → AreSound (node_at c name)
 are_sound c h name port side entity its =
     subst IsSound (sym at.2.its_rx) (reaches_inv (hop_of at.0 (flip (way_from own.0))) (h.stands.fits.reaches port entity.epoch at.0 at.1 (flip (way_from own.0)))).sound
   where
