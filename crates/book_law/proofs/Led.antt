@@ -156,7 +156,8 @@ abbrev PastOn : {h : List Entry} {old : Chain} → IsPast h old → List Entry �
 PastOn p g c = (q : IsPast g c) × (q.tables ≡ p.tables)
 
 -- a line behind go
-behaves_past : (h : List Entry) (old : Chain) (p : IsPast h old) (inner : List Entry) (e : Entry) (c : Chain) (line : Line) → e.line ≡ line → Behaves old inner line e.events e.reply c → PastOn p (e ∷ inner ++ h) c
+behaves_past : (h : List Entry) (old : Chain) (p : IsPast h old) (inner : List Entry) (e : Entry) (c : Chain) (line : Line) → e.line ≡ line
+    → Behaves old inner line e.events e.reply c → PastOn p (e ∷ inner ++ h) c
 behaves_past h old p inner e c Drain is b = by (drain_refusal old) refl b.1
   where
     by : (o : Option Reply) → drain_refusal old ≡ o → DrainsUnless o old inner e.reply c → PastOn p (e ∷ inner ++ h) c

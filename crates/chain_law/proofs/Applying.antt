@@ -56,7 +56,8 @@ start_heard s Ul = refl
 start_heard s Dl = refl
 
 -- a side of a port opens in an epoch to which it had not come, or closes
-module _ (l : RlcLaws) {logs : Logs} {t : Contents} {limit : Limits} {air : List (Option Pdu)} {view : View} (s : Stands logs t view limit air) (side : Side) (name : PortName) (was now : PortSide)
+module _ (l : RlcLaws) {logs : Logs} {t : Contents} {limit : Limits} {air : List (Option Pdu)} {view : View} (s : Stands logs t view limit air) (side : Side) (name : PortName)
+    (was now : PortSide)
     (there : view (owner side name) name ≡ Some was) (same_size : now.size ≡ was.size)
     (new : View) (change : Changes view (owner side name) name (Some now) new) (higher : Limits) (le : (at : Side) (q : PortName) → limit at q ≤ higher at q) where
   side_changes : Changes (sides_of view) side name now.entity (sides_of new)

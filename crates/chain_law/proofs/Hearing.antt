@@ -271,14 +271,17 @@ no_fault pdu found side entity none here is_open = ap (entity_fault pdu) (sym is
 its_epoch : (size : SnSize) (pdu : Pdu) (epoch next : ℕ) → air_fault size pdu (Some epoch) next ≡ None → pdu.epoch ≡ epoch
 its_epoch size pdu epoch next = by (epoch == pdu.epoch) refl
   where
-    by : (b : Bool) → (epoch == pdu.epoch) ≡ b → cond (not b) (Some Gone) (cond (is_stale size pdu.status pdu.number next) (Some (Stale pdu.number next)) None) ≡ None → pdu.epoch ≡ epoch
+    by : (b : Bool) → (epoch == pdu.epoch) ≡ b → cond (not b) (Some Gone) (cond (is_stale size pdu.status pdu.number next) (Some (Stale pdu.number next)) None) ≡ None
+        → pdu.epoch ≡ epoch
     by true is none = sym (eqb-true epoch pdu.epoch is)
     by false is none = absurd (none-some Gone (sym none))
 
 pub side_epoch_is : (pdu : Pdu) (epoch : ℕ) (tx : Tx) (rx : Rx) → side_fault pdu (Some epoch) tx rx ≡ None → pdu.epoch ≡ epoch
 side_epoch_is pdu epoch tx rx none = elim (cases_Bool pdu.status) [
-  | inl status ↦ its_epoch tx.size pdu epoch (tx_next_ack tx) (sym (cond-true pdu.status (air_fault tx.size pdu (Some epoch) (tx_next_ack tx)) (air_fault rx.size pdu (Some epoch) (rx_next rx)) status) ∙ none)
-  | inr no_status ↦ its_epoch rx.size pdu epoch (rx_next rx) (sym (cond-false pdu.status (air_fault tx.size pdu (Some epoch) (tx_next_ack tx)) (air_fault rx.size pdu (Some epoch) (rx_next rx)) no_status) ∙ none)
+  | inl status ↦ its_epoch tx.size pdu epoch (tx_next_ack tx) (sym (cond-true pdu.status (air_fault tx.size pdu (Some epoch) (tx_next_ack tx))
+      (air_fault rx.size pdu (Some epoch) (rx_next rx)) status) ∙ none)
+  | inr no_status ↦ its_epoch rx.size pdu epoch (rx_next rx) (sym (cond-false pdu.status (air_fault tx.size pdu (Some epoch) (tx_next_ack tx))
+      (air_fault rx.size pdu (Some epoch) (rx_next rx)) no_status) ∙ none)
 ]
 
 -- a side that hears a PDU takes it over
@@ -321,7 +324,8 @@ pub record HearsOn (q r : Logs) (old : Node) (port : PortName) (new : Node) : Ty
   pub name : new.name ≡ old.name
   pub there : ((new ≡ old) × Implies q r) ⊎ ((s : PortSide) × (side_at old port ≡ Some s))
 
-module _ (l : RlcLaws) {q r : Logs} (t : Contents) {limit : Limits} {air : List (Option Pdu)} (v : View) (sees : PortName → Bool) (rest : PortName → Option PortSide) (ticket : ℕ) (pdu : Pdu)
+module _ (l : RlcLaws) {q r : Logs} (t : Contents) {limit : Limits} {air : List (Option Pdu)} (v : View) (sees : PortName → Bool) (rest : PortName → Option PortSide)
+    (ticket : ℕ) (pdu : Pdu)
     (on : on_air air ticket ≡ Some pdu) (seen : sees pdu.port ≡ true) where
   side_hears : (old new : Node) (answer : NodeHeard) → NodeFits old → hear_refusal pdu (side_at old pdu.port) ≡ None → Into q t (side_at old pdu.port) pdu r
       → HearsSide t old (hearer_of pdu.way) pdu.port pdu.bytes answer new
@@ -355,7 +359,8 @@ module _ (l : RlcLaws) {q r : Logs} (t : Contents) {limit : Limits} {air : List 
 
       m : Moving q r heard.0 pdu.port h.entity.epoch at h.tx h.rx
       m = subst (λ (e : ℕ). Moving q r heard.0 pdu.port e at h.tx h.rx) epoch_is
-          (leaves_moved t pdu heard.0 (s.fits.reaches pdu.port h.entity.epoch heard.0 heard.1) (s.sides.sizes pdu.port h.entity.epoch heard.0 heard.1) (side_at old pdu.port) none into
+          (leaves_moved t pdu heard.0 (s.fits.reaches pdu.port h.entity.epoch heard.0 heard.1) (s.sides.sizes pdu.port h.entity.epoch heard.0 heard.1)
+          (side_at old pdu.port) none into
           pdu.status refl h.hop h.tx h.rx heard.2)
 
       moved : Stands r t (put v (owner at pdu.port) (window sees rest mid)) limit air
@@ -381,6 +386,18 @@ module _ (l : RlcLaws) {q r : Logs} (t : Contents) {limit : Limits} {air : List 
         record { fits = subst NodeFits (sym x.1) fits; name = ap (λ (n : Node). n.name) x.1; there = inl (x.1, into.kept (λ none no_status. none-some refusal (sym none ∙ is))) },
       )
       by None is x = side_hears old new answer fits is into x s
+
+-- a PDU that a node doesn't take over it hasn't heard
+pub not_handed : {q r : Logs} (t : Contents) (n : Node) (pdu : Pdu) (answer : NodeHeard) (new : Node) → Into q t (side_at n pdu.port) pdu r
+    → HearsPdu t n (hearer_of pdu.way) pdu answer new
+    → is_handed_over answer ≡ false → Implies q r
+not_handed {q} {r} t n pdu answer new into = by (hear_refusal pdu (side_at n pdu.port)) refl
+  where
+    by : (refusal : Option NodeHeard) → hear_refusal pdu (side_at n pdu.port) ≡ refusal → HearsUnless refusal t n (hearer_of pdu.way) pdu answer new
+        → is_handed_over answer ≡ false → Implies q r
+    by (Some refusal) is x none = into.kept (λ taken no_status. none-some refusal (sym taken ∙ is))
+    by None is x none = absurd (false≢true (sym none
+        ∙ follows_handed t (hearer_of pdu.way) (set_entity n x.side x.behind) (record x.side { entity = Some x.behind }) x.hop answer new x.follows))
 
 -- a PDU comes to its node
 pub comes_hold : (l : RlcLaws) {q r : Logs} (old : Chain) (ticket : ℕ) (pdu : Pdu) (events : List Told) (reply : Reply) (new : Chain) (behind : Chain → Chain)
@@ -408,18 +425,13 @@ comes_hold l {q} {r} old ticket pdu events reply new behind keeps on into h c = 
       tickets = h.tickets;
     }
 
-    unheard : (refusal : Option NodeHeard) → hear_refusal pdu (side_at n pdu.port) ≡ refusal → HearsUnless refusal old.tables n (hearer_of pdu.way) pdu c.answer c.node
-        → is_handed_over c.answer ≡ false → Implies q r
-    unheard (Some refusal) is x none = into.kept (λ taken no_status. none-some refusal (sym taken ∙ is))
-    unheard None is x none = absurd (false≢true (sym none
-        ∙ follows_handed old.tables (hearer_of pdu.way) (set_entity n x.side x.behind) (record x.side { entity = Some x.behind }) x.hop c.answer c.node x.follows))
-
     by : (b : Bool) → is_handed_over c.answer ≡ b → Holds r (cond b (behind (set_node old c.node)) old)
     by true is = keeps (set_node old c.node) (set heard.1.there)
-    by false is = holds_implied (unheard (hear_refusal pdu (side_at n pdu.port)) refl c.hears is) h
+    by false is = holds_implied (not_handed old.tables n pdu c.answer c.node into c.hears is) h
 
 pub delivers_hold : (l : RlcLaws) {q r : Logs} (old : Chain) (ticket : ℕ) (events : List Told) (reply : Reply) (new : Chain) (behind : Chain → Chain)
-    → ((c : Chain) → Holds r c → Holds r (behind c)) → IntoAir q old (on_air old.air ticket) r → Holds q old → Delivers old (on_air old.air ticket) events reply new behind → Holds r new
+    → ((c : Chain) → Holds r c → Holds r (behind c)) → IntoAir q old (on_air old.air ticket) r → Holds q old → Delivers old (on_air old.air ticket) events reply new behind
+    → Holds r new
 delivers_hold l {q} {r} old ticket events reply new behind keeps into h = by (on_air old.air ticket) refl into
   where
     by : (pdu : Option Pdu) → on_air old.air ticket ≡ pdu → IntoAir q old pdu r → Delivers old pdu events reply new behind → Holds r new

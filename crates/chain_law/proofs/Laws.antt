@@ -21,7 +21,7 @@ use Rattle.chain_law.proofs.Chains.{Holds, node_fits, node_name, node_there, nod
 use Rattle.chain_law.proofs.Hearing.{leaves_well}
 use Rattle.chain_law.proofs.Nodes.{ParcelFits, side_fits, side_set, outgoing_fits}
 use Rattle.chain_law.proofs.Opened.{opened_holds}
-use Rattle.chain_law.proofs.Runs.{nothing_into, does_hold, step_holds, comes_keep}
+use Rattle.chain_law.proofs.Runs.{AnyTicket, never_said, nothing_into, does_hold, step_holds, comes_keep}
 use Rattle.chain_law.proofs.Stands.{Logs, nothing_said}
 
 pub rlc_fits : {q : Logs} (c : Chain) → Holds q c → RlcFits c
@@ -38,8 +38,8 @@ rlc_fits c h = record {
 -- what holds of each chain that comes up
 pub comes_hold : (l : RlcLaws) {c : Chain} → ComesUp c → Holds nothing_said c
 comes_hold l = comes_keep (Holds nothing_said) (λ t. opened_holds t (λ name epoch way. tt))
-    (λ old line events reply new h s. step_holds l old line events reply new (nothing_into old line) h s)
-    (λ old line events reply new h d. does_hold l old line events reply new (nothing_into old line) h d)
+    (λ old line events reply new h s. step_holds l AnyTicket never_said old line events reply new s (nothing_into old line s.own) h)
+    (λ old line events reply new h d. does_hold l AnyTicket never_said old line events reply new (nothing_into old line events) h d)
 
 pub entities_are_those_of_ports : RlcLaws → EntitiesAreThoseOfPorts
 entities_are_those_of_ports l c up = rlc_fits c (comes_hold l up)

@@ -61,7 +61,8 @@ pub unless_keeps : (P : Chain → Type 0) (refusal : Option Reply) (old : Chain)
 unless_keeps P (Some r) old events reply new done h goes u = subst P (sym u.2) h
 unless_keeps P None old events reply new done h goes u = goes refl u
 
-pub unless_holds : {q : Logs} (refusal : Option Reply) (old : Chain) (events : List Event) (reply : Reply) (new : Chain) (done : Type 0) → Holds q old → (refusal ≡ None → done → Holds q new)
+pub unless_holds : {q : Logs} (refusal : Option Reply) (old : Chain) (events : List Event) (reply : Reply) (new : Chain) (done : Type 0) → Holds q old
+    → (refusal ≡ None → done → Holds q new)
     → Unless refusal old events reply new done → Holds q new
 unless_holds {q} = unless_keeps (Holds q)
 
@@ -189,7 +190,8 @@ module _ (l : RlcLaws) where
       by grant.Idle made sent = subst (Holds _) (sym sent.1) h
       by (grant.Small need) made sent = subst (Holds _) (sym sent.1) h
 
-  pub loses_hold : {q : Logs} (old : Chain) (pdu : Option Pdu) (ticket : ℕ) (events : List Event) (reply : Reply) (new : Chain) → Holds q old → Loses old pdu ticket events reply new → Holds q new
+  pub loses_hold : {q : Logs} (old : Chain) (pdu : Option Pdu) (ticket : ℕ) (events : List Event) (reply : Reply) (new : Chain) → Holds q old
+      → Loses old pdu ticket events reply new → Holds q new
   loses_hold old None ticket events reply new h x = subst (Holds _) (sym x.2) h
   loses_hold old (Some pdu) ticket events reply new h x = subst (Holds _) (sym x.2) (off_holds l old ticket h)
 
@@ -303,7 +305,8 @@ next_later last goal kind = go (has_applied last kind) kind
     go true kind = omega (arith, none kind)
     go false kind = omega (arith, none kind)
 
-pub plans_hold : {q : Logs} (old : Chain) (remote : Remote) (goal : Goal) (events : List Event) (reply : Reply) (new : Chain) → Holds q old → Plans old remote goal events reply new → Holds q new
+pub plans_hold : {q : Logs} (old : Chain) (remote : Remote) (goal : Goal) (events : List Event) (reply : Reply) (new : Chain) → Holds q old
+    → Plans old remote goal events reply new → Holds q new
 plans_hold old remote goal events reply new h p = subst (Holds _) (sym p.is) (record {
   limit = h.limit;
   apart = h.apart;

@@ -160,7 +160,8 @@ module _ {q : Logs} {t : Contents} {limit : Limits} {air : List (Option Pdu)} {v
   ]
 
 -- an entity of a port's side is called
-module _ (l : RlcLaws) {q : Logs} {t : Contents} {limit : Limits} {air : List (Option Pdu)} {view : View} (s : Stands q t view limit air) (side : Side) (name : PortName) (was now : PortSide)
+module _ (l : RlcLaws) {q : Logs} {t : Contents} {limit : Limits} {air : List (Option Pdu)} {view : View} (s : Stands q t view limit air) (side : Side) (name : PortName)
+    (was now : PortSide)
     (entity : Entity) (tx : Tx) (rx : Rx)
     (there : view (owner side name) name ≡ Some was) (is_open : was.entity ≡ Some entity) (same_size : now.size ≡ was.size)
     (its_entity : now.entity ≡ Some (record entity { tx = tx; rx = rx }))
@@ -344,7 +345,8 @@ module _ (sees : PortName → Bool) (rest : PortName → Option PortSide) (n m :
     ];
   }
 
-module _ (l : RlcLaws) {q : Logs} {t : Contents} {limit : Limits} {air : List (Option Pdu)} (view : View) (x : NodeName) (sees : PortName → Bool) (rest : PortName → Option PortSide) where
+module _ (l : RlcLaws) {q : Logs} {t : Contents} {limit : Limits} {air : List (Option Pdu)} (view : View) (x : NodeName) (sees : PortName → Bool)
+    (rest : PortName → Option PortSide) where
   -- moves of a node's sides keep what holds of those that are seen
   pub node_stands : {n m : Node} → NodeMoves n m → Stands q t (put view x (window sees rest n)) limit air → Stands q t (put view x (window sees rest m)) limit air
   node_stands {n} {m} (rests same) s = stands_same _

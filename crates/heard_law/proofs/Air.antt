@@ -143,20 +143,20 @@ module _ (old mid : Chain) where
   sends_none (Grant port way octets) reply it = absurd (true≢false it)
   sends_none line reply it = λ h ticket before. refl
 
+  -- a grant that is refused
+  pub grant_refused : (port : PortName) (way : Way) (octets : ℕ) (r : Reply) → grant_refusal old port way ≡ Some r → SendsNone (Grant port way octets) r
+  grant_refused port way octets r = by (is_none (entity_on old (sender_of way) port)) (nat_le 16384 (count_by is_some old.air)) (nat_le 2305843009213693952 (length old.air))
+    where
+      says : (x : Reply) → SendsNone (Grant port way octets) x → Some x ≡ Some r → SendsNone (Grant port way octets) r
+      says x none e = subst (SendsNone (Grant port way octets)) (same_Some x r e) none
+
+      by : (a b c : Bool) → cond a (Some NoPort) (cond b (Some AirFull) (cond c (Some Worn) None)) ≡ Some r → SendsNone (Grant port way octets) r
+      by true b c e = says NoPort (λ h ticket before. refl) e
+      by false true c e = says AirFull (λ h ticket before. refl) e
+      by false false true e = says Worn (λ h ticket before. refl) e
+      by false false false e = absurd (none-some r e)
+
   module _ (t : Contents) (h : List Entry) (k : Knows t h old) (told : AirTold h old.air) where
-    -- a grant that is refused
-    refused : (port : PortName) (way : Way) (octets : ℕ) (r : Reply) → grant_refusal old port way ≡ Some r → SendsNone (Grant port way octets) r
-    refused port way octets r = by (is_none (entity_on old (sender_of way) port)) (nat_le 16384 (count_by is_some old.air)) (nat_le 2305843009213693952 (length old.air))
-      where
-        says : (x : Reply) → SendsNone (Grant port way octets) x → Some x ≡ Some r → SendsNone (Grant port way octets) r
-        says x none e = subst (SendsNone (Grant port way octets)) (same_Some x r e) none
-
-        by : (a b c : Bool) → cond a (Some NoPort) (cond b (Some AirFull) (cond c (Some Worn) None)) ≡ Some r → SendsNone (Grant port way octets) r
-        by true b c e = says NoPort (λ h ticket before. refl) e
-        by false true c e = says AirFull (λ h ticket before. refl) e
-        by false false true e = says Worn (λ h ticket before. refl) e
-        by false false false e = absurd (none-some r e)
-
     granted : (port : PortName) (way : Way) (octets : ℕ) (own events : List Event) (reply : Reply) → Granted old port way octets own reply mid
         → AirTold (record { line = Grant port way octets; events = events; reply = reply } ∷ h) mid.air
     granted port way octets own events reply g = by g.answer g.sends
@@ -190,7 +190,7 @@ module _ (old mid : Chain) where
             → AirTold (record { line = Grant port way octets; events = events; reply = reply } ∷ h) mid.air
         by None is g = granted port way octets own events reply g
         by (Some r) is u = air_told h (record { line = Grant port way octets; events = events; reply = reply }) old.air mid.air
-            (subst (SendsNone (Grant port way octets)) (sym u.1) (refused port way octets r is)) (same old refl u.2) told
+            (subst (SendsNone (Grant port way octets)) (sym u.1) (grant_refused port way octets r is)) (same old refl u.2) told
 
     -- each line
     pub does_air : (line : Line) (own events : List Event) (reply : Reply) → Does old line own reply mid

@@ -1,5 +1,5 @@
 -- What a data PDU completes that comes to an end is what the history completes by it, and nothing else is.
-use Rattle.std.proofs.Common.{◌≡◌, ◌≢◌, ◌↔◌, inl, inr, ℕ, Bool, true, false, List, [], ◌∷◌, Option, Some, None, option_and_then, refl, sym, ◌∙◌, ap, subst}
+use Rattle.std.proofs.Common.{◌≡◌, ◌↔◌, inl, inr, ℕ, Bool, true, false, List, ◌∷◌, Some, None, option_and_then, refl, sym, ◌∙◌, ap, subst}
 use Rattle.std.specs.List.{Contains}
 use Rattle.std.proofs.lemmas.Bool.{cases_eq}
 use Rattle.std.proofs.lemmas.Option.{same_Some}
@@ -13,14 +13,14 @@ use Rattle.rlc_model.specs.Hop.{side_fault}
 use Rattle.rlc_model.specs.Rx.{Rx, Done, got}
 use Rattle.rlc_model.specs.Sides.{hearer_of}
 use Rattle.rlc_law.specs.Hop.{Hop, Deliver, given_at}
-use Rattle.rlc_law.specs.Ports.{Port, hop_of, ReachesPort, IsSide}
+use Rattle.rlc_law.specs.Ports.{Port, hop_of, ReachesPort}
 use Rattle.rlc_law.specs.PortLaws.{HearLeaves, HearsDataMade, IsAsGiven}
 use Rattle.rlc_law.specs.Sides.{HasSize}
 use Rattle.script_text.specs.History.{Entry}
 use Rattle.node_model.specs.Names.{NodeName}
 use Rattle.node_model.specs.State.{side_at, entity_of}
 use Rattle.chain_model.specs.Draining.{Moment}
-use Rattle.chain_model.specs.Heard.{HopOf, Delivered, HeardAt, CompletesAt}
+use Rattle.chain_model.specs.Heard.{HopOf, Delivered, CompletesAt}
 use Rattle.chain_model.specs.Lines.{hearer}
 use Rattle.chain_model.specs.Sizes.{port_size}
 use Rattle.chain_model.specs.State.{Chain, entity_on}
@@ -28,13 +28,13 @@ use Rattle.chain_model.specs.Steps.{Step}
 use Rattle.chain_law.specs.Calls.{HearLeavesKept}
 use Rattle.chain_law.proofs.Chains.{Holds}
 use Rattle.chain_law.proofs.Counting.{delivery_heard, delivery_given}
-use Rattle.chain_law.proofs.Hearing.{IsMade, Takes, no_fault, side_epoch_is}
+use Rattle.chain_law.proofs.Hearing.{Takes, no_fault, side_epoch_is}
 use Rattle.book_law.specs.Hearings.{EntityHears}
 use Rattle.heard_law.specs.Foundations.{HeardLaws}
-use Rattle.heard_law.specs.Receiving.{hop_at, IsAtEnd}
+use Rattle.heard_law.specs.Receiving.{hop_at}
 use Rattle.heard_law.specs.Telling.{Tells}
 use Rattle.heard_law.proofs.Hops.{HasLog, was_done, now_done, completed_given}
-use Rattle.heard_law.proofs.Logged.{logged, taken_logged}
+use Rattle.heard_law.proofs.Logged.{logged, comes_logged}
 use Rattle.heard_law.proofs.Receivers.{hears_way, port_log}
 use Rattle.heard_law.proofs.Staged.{AreForRelay}
 
@@ -71,7 +71,7 @@ module _ (laws : HeardLaws) (t : Contents) (h : List Entry) (m : Moment) (tables
   hop = hop_at t x.pdu.port x.pdu.way x.pdu.epoch
 
   module _ (new : Chain) (told : Tells h m.before) (s : Step m.before m.entry.line m.entry.events m.entry.reply new) (staged : AreForRelay m.before)
-      (at : IsAtEnd x.pdu.way x.pdu.port) (data_pdu : x.pdu.status ≡ false) where
+      (data_pdu : x.pdu.status ≡ false) where
     -- the answer is one to a data PDU
     record Made : Type 0 where
       answered : Heard
@@ -98,20 +98,20 @@ module _ (laws : HeardLaws) (t : Contents) (h : List Entry) (m : Moment) (tables
       new_hop = hop_of y.leaves.behind x.pdu.way
 
       before_log : HasLog (hop_of heard.0 x.pdu.way) hop h
-      before_log = port_log t h m.before holds x.pdu.port x.pdu.way x.pdu.epoch at heard.0 (ap (holds.stands.ports x.pdu.port) epoch_is ∙ heard.1)
+      before_log = port_log t h m.before holds x.pdu.port x.pdu.way x.pdu.epoch heard.0 (ap (holds.stands.ports x.pdu.port) epoch_is ∙ heard.1)
 
       size : HasSize (port_size t x.pdu.port) heard.0
       size = subst (λ (t : Contents). HasSize (port_size t x.pdu.port) heard.0) tables (holds.stands.sides.sizes x.pdu.port x.entity.epoch heard.0 heard.1)
 
       takes : Takes t x.pdu (logged t h) (logged t (m.entry ∷ h))
-      takes = taken_logged h m.entry m.before new told s staged laws t tables x.ticket x.pdu x.line x.shown x.taken data_pdu
+      takes = (comes_logged h m.entry m.before new told s staged laws t tables x.ticket x.pdu x.line x.shown).taken x.taken data_pdu
 
       behind_log : HasLog new_hop hop (m.entry ∷ h)
       behind_log = record {
         reaches = (laws.moves_on heard.0 x.pdu.way (Deliver y.leaves.heard) y.leaves.behind y.leaves.moves.moves).0 reaches x.pdu.way;
         log = subst (λ (l : List Data). (d : Data) → Contains l d ↔ Delivered hop (m.entry ∷ h) d.number d.view) (sym (delivery_heard x.pdu.way y.leaves.moves.moves))
             (takes.this y.leaves.heard (record { number = y.leaves.its_number; port = heard.0; reaches = reaches; size = size; spells = y.leaves.spells })
-            (hop_of heard.0 x.pdu.way).heard (λ here. before_log.log) at);
+            (hop_of heard.0 x.pdu.way).heard before_log.log);
       }
 
       before_rx : x.entity.rx ≡ (hop_of heard.0 x.pdu.way).rx
@@ -135,9 +135,11 @@ module _ (laws : HeardLaws) (t : Contents) (h : List Entry) (m : Moment) (tables
             (ap (λ (r : Rx). got r number) behind_rx ∙ done.0, done.1)
 
         not_before : got x.entity.rx number ≡ Done → ⊥
-        not_before done = was_done laws (hop_of heard.0 x.pdu.way) new_hop hop h m.entry before_log behind_log given number sdu (ap (λ (r : Rx). got r number) (sym before_rx) ∙ done) c
+        not_before done = was_done laws (hop_of heard.0 x.pdu.way) new_hop hop h m.entry before_log behind_log given number sdu
+            (ap (λ (r : Rx). got r number) (sym before_rx) ∙ done) c
 
-        only_this : (a : Heard) → HearLeavesKept x.entity.tx x.entity.rx (AmdHeard a) x.tx x.rx → IsAsGiven (hop_of heard.0 x.pdu.way) x.pdu.number a → Answers (AmdHeard a) number sdu
+        only_this : (a : Heard) → HearLeavesKept x.entity.tx x.entity.rx (AmdHeard a) x.tx x.rx → IsAsGiven (hop_of heard.0 x.pdu.way) x.pdu.number a
+            → Answers (AmdHeard a) number sdu
         only_this (Complete own whole) k g = elim (cases_eq number own) [
           | inl same ↦ (same, now.1 ∙ ap (given_at (hop_of heard.0 x.pdu.way)) (same ∙ g.0) ∙ sym g.2)
           | inr other ↦ absurd (not_before (sym (k.1.others number other) ∙ now.0))

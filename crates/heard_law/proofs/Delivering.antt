@@ -1,7 +1,6 @@
 -- The PDUs that an entity hears are those that a history delivers.
 use Rattle.std.proofs.Common.{◌≡◌, Bool, true, false, Some, None, option_and_then, refl, ◌∙◌, ap, subst}
 use Rattle.rlc_model.specs.declared.hop.HopHeard.TheVariants.{Amd as AmdHeard}
-use Rattle.rlc_model.specs.declared.hop.Pdu.{Pdu}
 use Rattle.rlc_model.specs.Hop.{side_fault}
 use Rattle.rlc_law.specs.Ports.{Port}
 use Rattle.rlc_law.specs.PortLaws.{HearLeaves}

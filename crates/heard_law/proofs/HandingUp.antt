@@ -1,12 +1,11 @@
 -- What is handed up of a key is exactly what the delivered PDUs complete, line by line.
-use Rattle.std.proofs.Common.{◌≡◌, ◌⊎◌, inl, inr, ℕ, ◌==◌, Bool, true, false, ◌||◌, List, [], ◌∷◌, ◌++◌, map, Option, Some, None, refl, sym, ◌∙◌, ap, subst, arith}
-use Rattle.std.specs.List.{AllByRecursion, list_any, Contains}
+use Rattle.std.proofs.Common.{◌≡◌, inl, inr, ℕ, ◌==◌, Bool, true, false, ◌||◌, List, [], ◌∷◌, ◌++◌, map, refl, sym, ◌∙◌, ap, subst, arith}
+use Rattle.std.specs.List.{AllByRecursion, list_any}
 use Rattle.std.proofs.lemmas.Bool.{cases_Bool, eq-eqb, eqb-true}
 use Rattle.std.proofs.lemmas.Option.{none-some}
 use Rattle.link_base.specs.declared.names.Key.{Key}
 use Rattle.link_base.specs.declared.names.PortName.TheVariants.{Direct}
 use Rattle.link_base.specs.declared.names.Remote.{Remote}
-use Rattle.link_base.specs.declared.names.SnSize.{SnSize}
 use Rattle.link_base.specs.declared.names.Way.{Way}
 use Rattle.link_base.specs.declared.names.Way.TheVariants.{Ul, Dl}
 use Rattle.bearer_map.specs.declared.rows.BearerRow.{BearerRow}
@@ -14,7 +13,6 @@ use Rattle.bearer_map.specs.declared.rows.RemoteRow.{RemoteRow}
 use Rattle.bearer_map.specs.Contents.{Contents, remote_rank}
 use Rattle.bearer_map.specs.Order.{has_row}
 use Rattle.pdcp_model.specs.HandUp.{Hearing, HandUp as HandUpOf}
-use Rattle.script_text.specs.declared.stage.ScriptStage.{ScriptStage}
 use Rattle.script_text.specs.History.{Entry}
 use Rattle.rlc_model.specs.Sides.{hearer_of}
 use Rattle.node_model.specs.Names.{owner, sink, is_remote}
@@ -22,8 +20,8 @@ use Rattle.node_model.specs.Tables.{first_count}
 use Rattle.chain_model.specs.Book.{handed, ups}
 use Rattle.chain_model.specs.Carried.{IsRowOf}
 use Rattle.chain_model.specs.Draining.{Moment, entry_of}
-use Rattle.chain_model.specs.Heard.{Completes, CompletesAll, HandUp, HandsUpExactly}
-use Rattle.chain_model.specs.Runs.{Turn, entries, LeadsTo}
+use Rattle.chain_model.specs.Heard.{Completes, CompletesAll, HandsUpExactly}
+use Rattle.chain_model.specs.Runs.{entries}
 use Rattle.chain_model.specs.State.{Chain, node_at, receiving_at, opened}
 use Rattle.chain_law.specs.Laws.{ComesUp, behind, goes_on}
 use Rattle.chain_law.proofs.Laws.{comes_hold}
@@ -35,7 +33,7 @@ use Rattle.book_law.proofs.Led.{Led, led}
 use Rattle.book_law.proofs.Opened.{member}
 use Rattle.book_law.proofs.Tables.{tables_stay}
 use Rattle.heard_law.specs.Foundations.{HeardLaws, HearingLaws}
-use Rattle.heard_law.specs.HandingUp.{EachIsOrderly, OrderlyHandUpsAreExact}
+use Rattle.heard_law.specs.HandingUp.{OrderlyHandUpsAreExact}
 use Rattle.heard_law.specs.Telling.{has_node, Tells}
 use Rattle.heard_law.proofs.Hops.{completes_none}
 use Rattle.heard_law.proofs.Keys.{LeadsOnce, hears_completes, none_completed}
@@ -45,7 +43,11 @@ use Rattle.heard_law.proofs.Logged.{none_declared, none_shown, Behind, behind_li
 module _ (t : Contents) (row : BearerRow) (key : Key) where
   declared_complete : (declared : List Entry) → AllByRecursion IsDeclaration declared → CompletesAll t row key declared []
   declared_complete [] all = refl
-  declared_complete (e ∷ h) all = inl ((λ hearing z. completes_none z.hop h e (λ number fields now. none_declared z.hop (e ∷ h) all number fields (inl now)) z.number z.whole z.completes), declared_complete h all.1)
+  declared_complete (e ∷ h) all = inl (
+    (λ hearing z. completes_none z.hop h e (λ number fields now. none_declared z.hop (e ∷ h) all number fields
+        (inl now)) z.number z.whole z.completes),
+    declared_complete h all.1,
+  )
 
   declared_handed : (declared : List Entry) → AllByRecursion IsDeclaration declared → handed key declared ≡ []
   declared_handed [] all = refl
@@ -66,7 +68,8 @@ row_remote : (r : Remote) (rows : List RemoteRow) → has_row remote_rank rows r
 row_remote r [] is = is
 row_remote r (row ∷ rows) is = elim (cases_Bool (row.remote.0 == r.0)) [
   | inl this ↦ ap (λ (b : Bool). b || list_any (λ (row : RemoteRow). is_remote r row.remote) rows) (eq-eqb r.0 row.remote.0 (sym (eqb-true row.remote.0 r.0 this)))
-  | inr other ↦ ap (λ (b : Bool). is_remote r row.remote || b) (row_remote r rows (sym (ap (λ (b : Bool). b || has_row remote_rank rows r.0) other) ∙ is)) ∙ or_true (is_remote r row.remote)
+  | inr other ↦ ap (λ (b : Bool). is_remote r row.remote || b) (row_remote r rows (sym (ap (λ (b : Bool). b || has_row remote_rank rows r.0) other) ∙ is))
+      ∙ or_true (is_remote r row.remote)
 ]
   where
     or_true : (b : Bool) → (b || true) ≡ true
@@ -77,7 +80,8 @@ row_remote r (row ∷ rows) is = elim (cases_Bool (row.remote.0 == r.0)) [
 abbrev AllOnce : List Moment → Type 0
 AllOnce ms = AllByRecursion (λ m. LeadsOnce m.before) ms
 
-module _ (laws : HeardLaws) (hearings : HearingLaws) (t : Contents) (apart : TablesApart t) (are : AreTables t) (declared : List Entry) (all : AllByRecursion IsDeclaration declared) where
+module _ (laws : HeardLaws) (hearings : HearingLaws) (t : Contents) (apart : TablesApart t) (are : AreTables t) (declared : List Entry)
+    (all : AllByRecursion IsDeclaration declared) where
   abbrev history : List Moment → List Entry
   history ms = map entry_of ms ++ declared
 
@@ -161,7 +165,8 @@ module _ (t : Contents) (opens : ComesUp (opened t)) where
 pub hand_ups_are_exact : HeardLaws → HearingLaws → OrderlyHandUpsAreExact
 hand_ups_are_exact laws hearings orderly h stage c leads row key its =
     subst (λ (u : Contents). HandsUpExactly u row key (entries h)) (sym tables) (subst (HandsUpExactly p.tables row key) (sym p.are)
-    (exact laws hearings p.tables (subst TablesApart tables (comes_hold laws.ports (behind h stage leads)).apart) p.are_tables p.declared p.declare row key (subst (λ (u : Contents). IsRowOf u key row) tables its)
+    (exact laws hearings p.tables (subst TablesApart tables (comes_hold laws.ports (behind h stage leads)).apart) p.are_tables p.declared p.declare row key
+    (subst (λ (u : Contents). IsRowOf u key row) tables its)
     p.moments c p.passes (all_once p.tables (behind l.opens.0 l.opens.1 l.opens.2) once p.moments c p.passes)))
   where
     l : Led h stage c

@@ -1,9 +1,9 @@
 -- What a hop's receiver has, where what it heard is what a history delivers.
-use Rattle.std.proofs.Common.{◌≡◌, ◌≢◌, ◌↔◌, ℕ, ◌<◌, true, List, [], ◌∷◌, length, get_or, ⊎_elim, Some, None, refl, sym, ◌∙◌, ap, subst, arith}
+use Rattle.std.proofs.Common.{◌≡◌, ◌≢◌, ◌↔◌, ℕ, ◌<◌, List, [], ◌∷◌, length, get_or, ⊎_elim, refl, sym, ◌∙◌, ap, subst, arith}
 use Rattle.std.specs.List.{Contains}
 use Rattle.rlc_pdu.specs.Amd.{Amd}
 use Rattle.rlc_model.specs.Heard.{Data, HasByte as HasByteOf, HasEnd as HasEndOf, HeardAs}
-use Rattle.rlc_model.specs.Rx.{Rx, Done, got, held_at, len_of}
+use Rattle.rlc_model.specs.Rx.{Done, got}
 use Rattle.rlc_law.specs.Hop.{Hop, Reaches, given_at}
 use Rattle.rlc_law.proofs.Base.{done_below}
 use Rattle.rlc_law.proofs.Inductive.{reaches_inv}

@@ -1,5 +1,5 @@
 -- A line completes a data PDU of a key exactly where the key's receiving end hears it.
-use Rattle.std.proofs.Common.{◌≡◌, ◌↔◌, ◌⊎◌, inl, inr, ℕ, Bool, true, false, List, [], ◌∷◌, Option, Some, None, Result, Ok, Err, refl, sym, ◌∙◌, ap, subst}
+use Rattle.std.proofs.Common.{◌≡◌, ◌⊎◌, inl, inr, ℕ, Bool, true, false, List, Option, Some, None, Result, Ok, refl, sym, ◌∙◌, ap, subst}
 use Rattle.std.proofs.lemmas.Bool.{cases_Bool, cases_eq, true≢false, false≢true}
 use Rattle.std.proofs.lemmas.Option.{none-some, same_Some}
 use Rattle.link_base.specs.declared.discard.Discard.{Discard}
@@ -22,7 +22,6 @@ use Rattle.rlc_model.specs.Sides.{hearer_of, way_from}
 use Rattle.pdcp_pdu.specs.Pdcp.{Pdcp, Sdu as SduPdu, Report as ReportPdu, IsPdcp, IsPdcpFault}
 use Rattle.pdcp_pdu.specs.Laws.{OneReading, NoFaultWhereRead}
 use Rattle.pdcp_model.specs.HandUp.{Hearing}
-use Rattle.script_text.specs.declared.event.Event.{Event}
 use Rattle.script_text.specs.declared.line.Line.{Line}
 use Rattle.script_text.specs.declared.line.Line.TheVariants.{Deliver, Repeat as RepeatLine}
 use Rattle.script_text.specs.History.{Entry}
@@ -30,33 +29,33 @@ use Rattle.node_model.specs.declared.answers.NodeHeard.{NodeHeard}
 use Rattle.node_model.specs.Ends.{HearsPdcp, data_pdu, report, neither}
 use Rattle.node_model.specs.Hearing.{hear_refusal, Passes, Follows, HearsSide, HearsUnless}
 use Rattle.node_model.specs.Names.{NodeName, AtRelay, owner, sink, is_key}
-use Rattle.node_model.specs.Routing.{Target, ToPdcp, Onward, Leads}
-use Rattle.node_model.specs.State.{Node, PortSide, side_at, incoming, set_entity}
+use Rattle.node_model.specs.Routing.{Target, ToPdcp, Leads}
+use Rattle.node_model.specs.State.{Node, side_at, incoming, set_entity}
 use Rattle.node_model.proofs.Names.{cases_port, key_refl}
 use Rattle.chain_model.specs.Draining.{Moment}
 use Rattle.chain_model.specs.Heard.{HopOf, GoesOver, Delivers, CompletesAt, Completes}
 use Rattle.chain_model.specs.Lines.{hearer, Comes, Delivers as DeliversPdu, without}
-use Rattle.chain_model.specs.Sizes.{port_size}
 use Rattle.chain_model.specs.State.{Chain, node_at, receiving_at}
 use Rattle.chain_model.specs.Steps.{Does, Step}
 use Rattle.chain_model.specs.Telling.{TellsHeard}
 use Rattle.chain_model.specs.Told.{known}
 use Rattle.chain_law.proofs.Chains.{Holds}
 use Rattle.chain_law.proofs.Nodes.{side_name}
-use Rattle.book_law.specs.Hearings.{coming, tells_hearing, EntityHears, CompletesPdcp, HearsBy, HearsNone}
+use Rattle.book_law.specs.Hearings.{coming, tells_hearing, EntityHears, HearsBy, HearsNone}
 use Rattle.book_law.proofs.Heard.{told_data}
 use Rattle.heard_law.specs.Foundations.{HeardLaws}
-use Rattle.heard_law.specs.Receiving.{hop_at, IsAtEnd}
+use Rattle.heard_law.specs.Receiving.{hop_at}
 use Rattle.heard_law.specs.Telling.{has_node, Tells}
 use Rattle.heard_law.proofs.Completing.{Answers, is_data, completes_only, completes_answered}
 use Rattle.heard_law.proofs.Hops.{completes_none}
 use Rattle.heard_law.proofs.Leading.{leads_same, nodes_lead_as_told}
-use Rattle.heard_law.proofs.Logged.{logged, none_comes, none_there, comes_so}
+use Rattle.heard_law.proofs.Logged.{logged, IsAtEnd, none_comes, none_there, comes_so}
 use Rattle.heard_law.proofs.Staged.{AreForRelay}
 
 -- at each node an SDU leads to one target
 abbrev pub LeadsOnce : Chain → Type 0
-LeadsOnce c = (name : NodeName) (at : Side) (port : PortName) (sdu : List ℕ) (a b : Result Target Discard) → Leads c.tables (node_at c name) at port sdu a → Leads c.tables (node_at c name) at port sdu b → a ≡ b
+LeadsOnce c = (name : NodeName) (at : Side) (port : PortName) (sdu : List ℕ) (a b : Result Target Discard) → Leads c.tables (node_at c name) at port sdu a
+    → Leads c.tables (node_at c name) at port sdu b → a ≡ b
 
 abbrev is_relay : NodeName → Bool
 is_relay AtRelay = true
@@ -124,14 +123,11 @@ module _ (laws : HeardLaws) (reading : OneReading) (no_fault : NoFaultWhereRead)
     comes : EntityHears (sink key) m (AmdHeard (Complete y.completes.number y.completes.whole))
     comes = y.completes.comes
 
-    at_end : IsAtEnd y.completes.comes.pdu.way y.completes.comes.pdu.port
-    at_end relay = sink_is_end key (sym y.completes.comes.at_node ∙ relay)
-
     its_data : y.completes.comes.pdu.status ≡ false
     its_data = is_data laws t h m tables holds y.completes.comes (Complete y.completes.number y.completes.whole) refl
 
     completed : CompletesAt (hop_at t y.completes.comes.pdu.port y.completes.comes.pdu.way y.completes.comes.pdu.epoch) h m.entry y.completes.number y.completes.whole
-    completed = completes_answered laws t h m tables holds y.completes.comes new told s staged at_end its_data y.completes.number y.completes.whole refl
+    completed = completes_answered laws t h m tables holds y.completes.comes new told s staged its_data y.completes.number y.completes.whole refl
 
   -- there is one key of which a receiving end hears a data PDU by the line
   pub one_key : (a b : Key) (for_a for_b : Hearing) → HearsBy a m for_a → HearsBy b m for_b → a ≡ b
@@ -147,7 +143,7 @@ module _ (laws : HeardLaws) (reading : OneReading) (no_fault : NoFaultWhereRead)
       same = same_Some _ _ (sym y.completes.comes.shown ∙ ap (on_air m.before.air) (same_Some _ _ (sym y.completes.comes.line ∙ x.completes.comes.line)) ∙ x.completes.comes.shown)
 
       only : (y.completes.number ≡ x.completes.number) × (y.completes.whole ≡ x.completes.whole)
-      only = completes_only laws t h m tables holds x.completes.comes new told s staged (at_end a for_a x) (its_data a for_a x) y.completes.number y.completes.whole
+      only = completes_only laws t h m tables holds x.completes.comes new told s staged (its_data a for_a x) y.completes.number y.completes.whole
           (subst (λ (p : Pdu). CompletesAt (hop_at t p.port p.way p.epoch) h m.entry y.completes.number y.completes.whole) same (completed b for_b y))
 
   module _ (row : BearerRow) (key : Key) (has : has_node m.before.tables (sink key) ≡ true) (size : (receiving_at m.before key).receiver.size ≡ row.pdcp) where
@@ -163,7 +159,8 @@ module _ (laws : HeardLaws) (reading : OneReading) (no_fault : NoFaultWhereRead)
       pdu = y.body;
       leads = subst (λ (u : Contents). Leads u (known u (sink key) h) (hearer_of x.pdu.way) x.pdu.port y.completes.whole (Ok (ToPdcp key y.body))) tables
           ((nodes_lead_as_told h m.before told (sink key) has (hearer_of x.pdu.way) x.pdu.port y.completes.whole (Ok (ToPdcp key y.body))).0
-          (subst (λ (n : NodeName). Leads m.before.tables (node_at m.before n) (hearer_of x.pdu.way) x.pdu.port y.completes.whole (Ok (ToPdcp key y.body))) x.at_node y.completes.leads));
+          (subst (λ (n : NodeName). Leads m.before.tables (node_at m.before n) (hearer_of x.pdu.way) x.pdu.port y.completes.whole
+          (Ok (ToPdcp key y.body))) x.at_node y.completes.leads));
       reads = subst (λ (size : SnSize). IsPdcp size (SduPdu hearing.sn hearing.sdu) y.body) size y.reads;
     }
       where
@@ -214,7 +211,7 @@ module _ (laws : HeardLaws) (reading : OneReading) (no_fault : NoFaultWhereRead)
         }
 
         answers : Answers side_hears.hop z.number z.whole
-        answers = completes_only laws t h m tables holds (x side_hears.hop refl) new told s staged (subst (λ (hop : HopOf). IsAtEnd hop.way hop.port) hop_is at) status z.number z.whole
+        answers = completes_only laws t h m tables holds (x side_hears.hop refl) new told s staged status z.number z.whole
             (subst (λ (hop : HopOf). CompletesAt hop h m.entry z.number z.whole) hop_is z.completes)
 
         leads : Leads m.before.tables (hearer pdu m.before) (hearer_of pdu.way) pdu.port z.whole (Ok (ToPdcp key z.pdu))
@@ -274,7 +271,8 @@ module _ (laws : HeardLaws) (reading : OneReading) (no_fault : NoFaultWhereRead)
           air ticket line (Some pdu) on = side (hear_refusal pdu (side_at (hearer pdu m.before) pdu.port)) refl
             where
               its : (number : ℕ) (fields : Amd) → Delivers z.hop h m.entry number fields
-                  → (hear_refusal pdu (side_at (hearer pdu m.before) pdu.port) ≡ None) × (pdu.status ≡ false) × GoesOver z.hop pdu × (pdu.number ≡ number) × IsAmd z.hop.size fields pdu.bytes
+                  → (hear_refusal pdu (side_at (hearer pdu m.before) pdu.port) ≡ None) × (pdu.status ≡ false) × GoesOver z.hop pdu ×
+                  (pdu.number ≡ number) × IsAmd z.hop.size fields pdu.bytes
               its number fields now = comes_so h m.entry m.before new told s staged ticket pdu line on z.hop number fields at now
 
               side : (refusal : Option NodeHeard) → hear_refusal pdu (side_at (hearer pdu m.before) pdu.port) ≡ refusal → HearsBy key m hearing

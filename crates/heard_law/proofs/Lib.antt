@@ -18,3 +18,4 @@ pub mod Completing
 pub mod Runs
 pub mod Keys
 pub mod HandingUp
+pub mod Reporting

@@ -1,5 +1,5 @@
 -- What receivers at ends have behind each run.
-use Rattle.std.proofs.Common.{◌≡◌, List, refl, sym, subst}
+use Rattle.std.proofs.Common.{◌≡◌, List, sym, subst}
 use Rattle.bearer_map.specs.Contents.{Contents}
 use Rattle.script_text.specs.History.{Entry}
 use Rattle.script_text.specs.declared.stage.ScriptStage.{ScriptStage}
@@ -31,5 +31,6 @@ module _ (laws : HeardLaws) (h : List Turn) (stage : ScriptStage) (c : Chain) (l
   behind_run = subst (λ (g : List Entry). Behind past.tables g c) (sym past.are) (behind_lines laws past.tables apart past.are_tables past.declared past.declare past.moments c past.passes)
 
 pub receivers_have : HeardLaws → ReceiversHaveWhatWasDelivered
-receivers_have laws h stage c leads port way at entity is = subst (λ (t : Contents). HasDelivered (hop_at t port way entity.epoch) (entries h) entity.rx) (sym (tables laws h stage c leads))
-    (receiver_has (past laws h stage c leads).tables (entries h) c (behind_run laws h stage c leads).holds laws port way at entity is)
+receivers_have laws h stage c leads port way entity is = subst (λ (t : Contents). HasDelivered (hop_at t port way entity.epoch) (entries h) entity.rx)
+    (sym (tables laws h stage c leads))
+    (receiver_has (past laws h stage c leads).tables (entries h) c (behind_run laws h stage c leads).holds laws port way entity is)

@@ -1,5 +1,5 @@
 -- What is staged for a burst is on its way to the relay.
-use Rattle.std.proofs.Common.{◌≡◌, ◌⊎◌, inl, inr, ℕ, ◌-◌, ◌<◌, ◌≤◌, ◌==◌, Bool, true, false, cond, not, ◌||◌, List, [], ◌∷◌, ◌++◌, length, flat_map, map, Option, Some, None, refl, sym, ◌∙◌, ap, subst, arith}
+use Rattle.std.proofs.Common.{◌≡◌, inl, inr, ℕ, ◌-◌, ◌<◌, ◌≤◌, ◌==◌, Bool, true, false, cond, not, ◌||◌, List, [], ◌∷◌, ◌++◌, length, flat_map, map, Option, Some, None, refl, sym, ◌∙◌, ap, subst, arith}
 use Rattle.std.specs.List.{AllByRecursion, AllZip, list_any}
 use Rattle.std.proofs.lemmas.Bool.{cases_Bool, cases_lt, cond-true, cond-false, false≢true, and_parts, eqb-true}
 use Rattle.std.proofs.lemmas.Option.{none-some, same_Some}
@@ -30,14 +30,15 @@ use Rattle.node_model.proofs.Names.{node_is}
 use Rattle.node_model.proofs.Finding.{each_append}
 use Rattle.chain_model.specs.Plans.{marks, is_open}
 use Rattle.chain_model.specs.State.{Chain, node_at, set_node, set_plan, sender_at}
-use Rattle.chain_model.specs.Bursts.{inbox, Ingests, ends, stops, pushes, hears, Ingress, told_by, Bursts}
-use Rattle.chain_model.specs.Lines.{Unless, submit_refusal, Submits, grant_refusal, Sends, Granted, is_handed_over, Delivers, without, Loses, stage_refusal, with_ticket, Stages, expire_refusal, Expires, report_refusal, Wants, plan_refusal, Plans, apply_refusal, closed, Applies}
+use Rattle.chain_model.specs.Bursts.{inbox, Ingests, ends, stops, pushes, hears, Ingress, told_by}
+use Rattle.chain_model.specs.Lines.{Unless, submit_refusal, Submits, grant_refusal, Sends, Granted, is_handed_over, Delivers, without, Loses, stage_refusal, Stages, expire_refusal, report_refusal, plan_refusal, apply_refusal, closed, Applies}
 use Rattle.chain_model.specs.Steps.{Does}
 use Rattle.chain_model.specs.Told.{event_hears}
+use Rattle.chain_law.proofs.Bursts.{shows_either}
 use Rattle.chain_law.proofs.Counting.{air_less, air_long}
 use Rattle.chain_law.proofs.Pairs.{each_picked, each_then}
 use Rattle.heard_law.proofs.Air.{ticket_new}
-use Rattle.heard_law.proofs.Tickets.{any_append, split, left_none}
+use Rattle.heard_law.proofs.Tickets.{any_append, left_none}
 
 -- the ticket was made, and its PDU goes to the relay as long as it is on the air
 pub record IsForRelay (air : List (Option Pdu)) (ticket : ℕ) : Type 0 where
@@ -136,8 +137,13 @@ module _ (old mid : Chain) where
       its (Some pdu) is e = elim (cases_Bool pdu.status) [
         | inl status ↦ absurd (none-some _ (sym (sym (cond-true pdu.status _ _ status) ∙ e)))
         | inr data_pdu ↦ elim (cases_Bool (is_node AtRelay (owner (hearer_of pdu.way) pdu.port))) [
-          | inl at ↦ record { made = made; goes = λ other here. ap (λ (p : Pdu). owner (hearer_of p.way) p.port) (same_Some other pdu (sym here ∙ is)) ∙ sym (node_is AtRelay (owner (hearer_of pdu.way) pdu.port) at) }
-          | inr not_at ↦ absurd (none-some _ (sym (sym (cond-true (not (is_node AtRelay (owner (hearer_of pdu.way) pdu.port))) _ None (ap not not_at)) ∙ sym (cond-false pdu.status _ _ data_pdu) ∙ e)))
+          | inl at ↦ record {
+            made = made;
+            goes = λ other here. ap (λ (p : Pdu). owner (hearer_of p.way) p.port) (same_Some other pdu (sym here ∙ is))
+                ∙ sym (node_is AtRelay (owner (hearer_of pdu.way) pdu.port) at);
+          }
+          | inr not_at ↦ absurd (none-some _ (sym (sym (cond-true (not (is_node AtRelay (owner (hearer_of pdu.way) pdu.port))) _ None (ap not not_at))
+              ∙ sym (cond-false pdu.status _ _ data_pdu) ∙ e)))
         ]
       ]
         where
@@ -192,7 +198,7 @@ module _ (old : Chain) (P : ℕ → Type 0) (t : ℕ) where
   burst_staged [] [] zipped all is = absurd (false≢true is)
   burst_staged [] (i ∷ ingresses) zipped all is = absurd zipped
   burst_staged (side ∷ sides) [] zipped all is = absurd zipped
-  burst_staged (side ∷ sides) (i ∷ ingresses) zipped all is = elim (split old old t (told_by i) (flat_map told_by ingresses) is) [
+  burst_staged (side ∷ sides) (i ∷ ingresses) zipped all is = elim (shows_either t (told_by i) (flat_map told_by ingresses) is) [
     | inl first ↦ ingested zipped.0 (each_picked P _ old.staged all) (sym (any_append t i.heard (map (λ ticket. Left ticket) i.left) (left_none old old i.left)) ∙ first)
     | inr second ↦ burst_staged sides ingresses zipped.1 all second
   ]

@@ -1,5 +1,5 @@
 -- A history tells a PDU as heard by a line exactly where the line has it heard.
-use Rattle.std.proofs.Common.{◌≡◌, ◌↔◌, ◌⊎◌, inl, inr, ℕ, ◌==◌, Bool, true, false, cond, not, ◌&&◌, ◌||◌, nat_lt, List, [], ◌∷◌, ◌++◌, map, filter_map, flat_map, Option, Some, None, is_some, append_assoc, refl, sym, ◌∙◌, ap, subst}
+use Rattle.std.proofs.Common.{◌≡◌, ◌↔◌, inl, inr, ℕ, ◌==◌, Bool, true, false, cond, not, ◌&&◌, ◌||◌, nat_lt, List, [], ◌∷◌, ◌++◌, map, filter_map, flat_map, Option, Some, None, is_some, append_assoc, refl, sym, ◌∙◌, ap, subst}
 use Rattle.std.specs.List.{AllByRecursion, AllZip, cons_option, list_any}
 use Rattle.std.proofs.lemmas.Bool.{cases_Bool, true≢false, false≢true, and_parts, and_from, eqb-true, eq-eqb}
 use Rattle.std.proofs.lemmas.Option.{none-some, same_Some}
@@ -38,6 +38,7 @@ use Rattle.chain_model.specs.Lines.{Unless, submit_refusal, Submits, grant_refus
 use Rattle.chain_model.specs.Steps.{Does, Step, confirming, reporting}
 use Rattle.chain_model.specs.Telling.{marked, TellsHop, TellsHeard, TellsExpired}
 use Rattle.chain_model.specs.Told.{is_unheard, line_hears, event_hears, hears_ticket}
+use Rattle.chain_law.proofs.Bursts.{shows_either}
 use Rattle.chain_law.proofs.Hearing.{follows_handed}
 use Rattle.chain_law.proofs.Stands.{not_true}
 use Rattle.book_law.specs.Hearings.{coming}
@@ -145,9 +146,9 @@ refused pdu (Some side) r e = by (entity_fault pdu side.entity) e
     by None e = slot (is_some side.slot && not pdu.status) e
 
 -- a PDU that comes is told as heard exactly where it is taken
-comes_so : (c : Chain) (pdu : Pdu) (events : List Event) (reply : Reply) (new : Chain) (behind : Chain → Chain) → Comes c pdu events reply new behind
+pub comes_as : (c : Chain) (pdu : Pdu) (events : List Event) (reply : Reply) (new : Chain) (behind : Chain → Chain) → Comes c pdu events reply new behind
     → NoHeard events × ((is_unheard reply ≡ false) ↔ (hear_refusal pdu (side_at (hearer pdu c) pdu.port) ≡ None))
-comes_so c pdu events reply new behind x = (told.none, by (hear_refusal pdu (side_at (hearer pdu c) pdu.port)) refl x.hears)
+comes_as c pdu events reply new behind x = (told.none, by (hear_refusal pdu (side_at (hearer pdu c) pdu.port)) refl x.hears)
   where
     told : Says x.answer events reply
     told = heard_says pdu.port (way_from (hearer_of pdu.way)) x.answer events reply x.tells
@@ -175,7 +176,7 @@ module _ (old mid : Chain) where
 
   delivers : (o : Option Pdu) (own : List Event) (reply : Reply) (behind : Chain → Chain) → Delivers old o own reply mid behind → NoHeard own
   delivers None own reply behind d = shows_none own d.0
-  delivers (Some pdu) own reply behind d = (comes_so old pdu own reply mid behind d).0
+  delivers (Some pdu) own reply behind d = (comes_as old pdu own reply mid behind d).0
 
   loses : (o : Option Pdu) (ticket : ℕ) (own : List Event) (reply : Reply) → Loses old o ticket own reply mid → NoHeard own
   loses None ticket own reply d = shows_none own d.0
@@ -214,7 +215,7 @@ module _ (old mid : Chain) where
         λ x. absurd (none-some x.1.pdu (sym (ap (on_air old.air) (sym x.0) ∙ is) ∙ x.1.here)),
       )
       by (Some pdu) is d =
-          let so = (comes_so old pdu own reply mid behind d).1 in (
+          let so = (comes_as old pdu own reply mid behind d).1 in (
             λ heard.
                 let parts = and_parts _ _ heard in
                 let same : ticket ≡ t = eqb-true ticket t parts.0 in
@@ -240,19 +241,9 @@ module _ (old mid : Chain) where
   ingests_taken t {side} (hears {heard = heard} ticket pdu reply none on treats more) is = elim (cases_Bool (event_hears t (HeardTicket ticket reply))) [
     | inl this ↦
         let parts = and_parts _ _ this in
-        let so = (comes_so (with_side old side) pdu treats.0 reply treats.1 (λ x. x) treats.2).1 in
+        let so = (comes_as (with_side old side) pdu treats.0 reply treats.1 (λ x. x) treats.2).1 in
         (side, record { pdu = pdu; here = ap (on_air old.air) (sym (eqb-true ticket t parts.0)) ∙ on; taken = so.0 (not_true (is_unheard reply) parts.1) })
     | inr other ↦ ingests_taken t more (sym (ap (λ (b : Bool). b || list_any (event_hears t) heard) other) ∙ is)
-  ]
-
-  pub split : (t : ℕ) (xs ys : List Event) → list_any (event_hears t) (xs ++ ys) ≡ true → (list_any (event_hears t) xs ≡ true) ⊎ (list_any (event_hears t) ys ≡ true)
-  split t [] ys is = inr is
-  split t (x ∷ xs) ys is = elim (cases_Bool (event_hears t x)) [
-    | inl this ↦ inl (ap (λ (b : Bool). b || list_any (event_hears t) xs) this)
-    | inr not_this ↦ elim (split t xs ys (sym (ap (λ (b : Bool). b || list_any (event_hears t) (xs ++ ys)) not_this) ∙ is)) [
-      | inl first ↦ inl (ap (λ (b : Bool). b || list_any (event_hears t) xs) not_this ∙ first)
-      | inr second ↦ inr second
-    ]
   ]
 
   burst_taken : (t : ℕ) (sides : List PortSide) (ingresses : List Ingress)
@@ -261,7 +252,7 @@ module _ (old mid : Chain) where
   burst_taken t [] [] all is = absurd (false≢true is)
   burst_taken t [] (i ∷ ingresses) all is = absurd all
   burst_taken t (side ∷ sides) [] all is = absurd all
-  burst_taken t (side ∷ sides) (i ∷ ingresses) all is = elim (split t (told_by i) (flat_map told_by ingresses) is) [
+  burst_taken t (side ∷ sides) (i ∷ ingresses) all is = elim (shows_either t (told_by i) (flat_map told_by ingresses) is) [
     | inl first ↦ ingests_taken t all.0 (sym (any_append t i.heard (map (λ ticket. Left ticket) i.left) (left_none i.left)) ∙ first)
     | inr second ↦ burst_taken t sides ingresses all.1 second
   ]

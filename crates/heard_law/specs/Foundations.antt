@@ -1,6 +1,7 @@
 -- The laws of hops and of chains on which the laws of what is heard stand.
 use Rattle.rlc_pdu.specs.Laws.{OneReading, ReadsBack}
-use Rattle.rlc_law.specs.Laws.{SendsPieces, CompletesHeard, HeardAsGiven, HoldsHeard, KnowsHeardEnd}
+use Rattle.rlc_status.specs.Laws.{OneSpelling}
+use Rattle.rlc_law.specs.Laws.{SendsPieces, MakesTrue, CompletesHeard, HeardAsGiven, HoldsHeard, KnowsHeardEnd}
 use Rattle.rlc_law.specs.PortLaws.{MovesOn}
 use Rattle.pdcp_pdu.specs.Laws.{OneReading as OnePdcpReading, NoFaultWhereRead}
 use Rattle.pdcp_law.specs.Hearings.{HandsUpTheHandUp}
@@ -17,7 +18,7 @@ pub record HearingLaws : Type 0 where
   pub one_target : OneTarget
   pub hand_ups : HandUpsAreTold
 
--- what rlc_pdu, rlc_law and chain_law prove of hops and of entities
+-- what rlc_pdu, rlc_status, rlc_law and chain_law prove of hops and of entities
 pub record HeardLaws : Type 0 where
   pub ports : RlcLaws
   pub reading : OneReading
@@ -29,3 +30,5 @@ pub record HeardLaws : Type 0 where
   pub holds : HoldsHeard
   pub ends : KnowsHeardEnd
   pub hearing : HearingKeeps
+  pub makes_true : MakesTrue
+  pub spelling : OneSpelling

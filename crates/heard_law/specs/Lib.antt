@@ -5,3 +5,4 @@ pub mod Delivering
 pub mod Receiving
 pub mod Foundations
 pub mod HandingUp
+pub mod Reporting

@@ -5,10 +5,10 @@ use book_law::hand_ups_are_told;
 use chain_law::{calls_keep_what_was_given, laws_of_ports};
 use node_law::an_sdu_leads_to_one_target;
 use pdcp_law::what_goes_up_is_the_hand_up;
-use rlc_law::{pdus_are_pieces, port_goes_on, what_is_complete_was_heard};
+use rlc_law::{pdus_are_pieces, port_goes_on, status_is_true, what_is_complete_was_heard};
 use rlc_pdu::{one_reading, reads_back};
 
-/// What rlc_pdu, rlc_law and chain_law prove of data PDUs, hops and entities.
+/// What rlc_pdu, rlc_status, rlc_law and chain_law prove of PDUs, hops and entities.
 pub(crate) fn laws_of_hops()
     ensures { HeardLaws }
 {
@@ -17,6 +17,8 @@ pub(crate) fn laws_of_hops()
     pdus_are_pieces();
     port_goes_on();
     what_is_complete_was_heard();
+    status_is_true();
+    rlc_status::one_spelling();
     calls_keep_what_was_given();
     laws_of_ports();
 }

@@ -4,6 +4,7 @@ ghost use Rattle.heard_law.specs.Tickets.{TicketsHeardAreTold};
 ghost use Rattle.heard_law.specs.Delivering.{DeliversWhatComes};
 ghost use Rattle.heard_law.specs.Receiving.{ReceiversHaveWhatWasDelivered};
 ghost use Rattle.heard_law.specs.HandingUp.{OrderlyHandUpsAreExact};
+ghost use Rattle.heard_law.specs.Reporting.{ReportsAreTrue};
 
 use crate::foundations::{laws_of_hearings, laws_of_hops};
 use chain_law::what_is_heard_was_given;
@@ -32,8 +33,8 @@ pub fn what_comes_is_delivered()
     what_is_heard_was_given();
 }
 
-/// A law: behind each run, whatever its lines, what an open receiver at an end has of its hop and epoch is what the history
-/// delivers over that hop: a number is complete exactly where its PDUs were heard, and as one SDU; of another number a byte is
+/// A law: behind each run, whatever its lines, what an open receiver has of its hop and epoch is what the history delivers over
+/// that hop: a number is complete exactly where its PDUs were heard, and as one SDU; of another number a byte is
 /// held, and the length known, exactly where a PDU that was delivered has it (TS 38.322 clause 5.2.3.2).
 pub fn receivers_have_what_was_delivered()
     ensures { ReceiversHaveWhatWasDelivered }
@@ -49,4 +50,13 @@ pub fn hand_ups_are_exact()
 {
     laws_of_hops();
     laws_of_hearings();
+}
+
+/// A law: each STATUS PDU that a run sends, at an end or at the relay, is true of the PDUs delivered before it: a number said
+/// received was heard, one that is named wasn't, and of that the places said missing are those that no PDU has a byte for (TS
+/// 38.322 clause 5.3.4).
+pub fn reports_are_true()
+    ensures { ReportsAreTrue }
+{
+    laws_of_hops();
 }
