@@ -8,7 +8,7 @@ use Rattle.link_base.specs.declared.discard.Discard.{Discard}
 use Rattle.link_base.specs.declared.names.Drb.{Drb}
 use Rattle.link_base.specs.declared.names.Key.{Key}
 use Rattle.link_base.specs.declared.names.PortName.{PortName}
-use Rattle.link_base.specs.declared.names.PortName.TheVariants.{Direct, Pc5, Uu}
+use Rattle.link_base.specs.declared.names.PortName.TheVariants.{Direct}
 use Rattle.link_base.specs.declared.names.Remote.{Remote}
 use Rattle.link_base.specs.declared.names.Side.{Side}
 use Rattle.link_base.specs.declared.names.Way.{Way}
@@ -40,12 +40,12 @@ use Rattle.node_model.specs.Hearing.{HearsPdu, HearsSide, HearsUnless, Follows, 
 use Rattle.node_model.specs.Routing.{Target, ToPdcp, Leads}
 use Rattle.node_model.proofs.Names.{cases_key}
 use Rattle.node_model.proofs.ByName.{outgoing_set, sides_set}
-use Rattle.node_end.specs.Direct.{IsDirectPort}
 use Rattle.chain_model.specs.State.{Chain, node_at, set_node, sender_at, entity_on}
 use Rattle.chain_model.specs.Lines.{Unless, Submits, Granted, Sends, Delivers, without, Loses, Expires, Wants, is_handed_over}
 use Rattle.chain_model.specs.Steps.{Does}
 use Rattle.chain_model.proofs.Lookups.{cases_found, sets_nodes, outgoing_key, out_others, view_same}
-use Rattle.chain_core.specs.Chain.{HasOwnTags, IsOwnTag, is_direct_line, watched, key_heard, key_sent}
+use Rattle.direct_run_law.specs.Own.{HasOwnTags, IsOwnTag}
+use Rattle.chain_core.specs.Chain.{is_direct_line, watched, key_heard, key_sent}
 
 -- the confirmed number of a key at a node
 abbrev number_at : Node → Key → ℕ
@@ -189,7 +189,9 @@ module _ (c : Chain) (own : HasOwnTags c) (pdu : Pdu) (answer : NodeHeard) (new 
   node = node_at c (owner at_end pdu.port)
 
   side_keeps : HearsSide c.tables node at_end pdu.port pdu.bytes answer new → KeepsNumbers node (key_heard (Some pdu)) new
-  side_keeps s = by pdu.port refl (own.direct at_end pdu.port s.entity is_entity)
+  side_keeps s =
+      let direct = own.direct at_end pdu.port s.entity is_entity in
+      at_direct direct.0 direct.1 direct.2
     where
       is_entity : entity_on c at_end pdu.port ≡ Some s.entity
       is_entity = ap (λ (x : Option PortSide). option_and_then entity_of x) s.its.here ∙ s.its.is_open
@@ -205,13 +207,12 @@ module _ (c : Chain) (own : HasOwnTags c) (pdu : Pdu) (answer : NodeHeard) (new 
           (told_own (IsOwnTag (key_of remote drb (way_from at_end))) s.entity.tx.kept s.tx.kept
           (own.tags at_end remote drb s.entity (subst (λ (p : PortName). entity_on c at_end p ≡ Some s.entity) is is_entity)))
 
-      by : (port : PortName) → pdu.port ≡ port → IsDirectPort port → KeepsNumbers node (key_sent at_end port) new
-      by (Direct remote drb) is direct =
+      at_direct : (remote : Remote) (drb : Drb) → pdu.port ≡ Direct remote drb → KeepsNumbers node (key_heard (Some pdu)) new
+      at_direct remote drb is =
           let mid = set_entity node s.side s.behind in
-          keeps_then node (Some (key_of remote drb (way_from at_end))) mid new (record { name = refl; others = λ k ne. refl })
-          (follows_keeps c.tables mid at_end (record s.side { entity = Some s.behind }) remote drb (named ∙ is) s.hop answer new (own_tags remote drb is) s.follows)
-      by (Pc5 remote chan) is direct = absurd direct
-      by (Uu chan) is direct = absurd direct
+          subst (λ (p : PortName). KeepsNumbers node (key_sent at_end p) new) (sym is)
+          (keeps_then node (Some (key_of remote drb (way_from at_end))) mid new (record { name = refl; others = λ k ne. refl })
+          (follows_keeps c.tables mid at_end (record s.side { entity = Some s.behind }) remote drb (named ∙ is) s.hop answer new (own_tags remote drb is) s.follows))
 
   pub pdu_keeps : HearsPdu c.tables node at_end pdu answer new → KeepsNumbers node (key_heard (Some pdu)) new
   pdu_keeps hears = by (hear_refusal pdu (side_at node pdu.port)) hears

@@ -19,7 +19,8 @@ use Rattle.node_model.specs.Names.{is_remote, key_of}
 use Rattle.node_model.specs.Tables.{keys, keys_of_row, has_bearer}
 use Rattle.chain_model.specs.State.{Chain, sender_at}
 use Rattle.chain_model.specs.Steps.{confirming, reporting}
-use Rattle.chain_core.specs.Chain.{Carries, Feeds, Plays, HasOwnTags, is_direct_line, watched, confirmed_of, risen}
+use Rattle.direct_run_law.specs.Own.{HasOwnTags}
+use Rattle.chain_core.specs.Chain.{Carries, Feeds, Plays, is_direct_line, watched, confirmed_of, risen}
 use Rattle.chain_core.proofs.Confirming.{Leaves, line_leaves}
 
 abbrev is_ul : Way → Bool

@@ -1,19 +1,14 @@
 -- What a chain is seen as, which lines it carries out, and what its calls do and rely on.
 use Rattle.std.specs.Prelude.{◌&&◌, if◌then◌else◌, nat_lt, None, ◌≡◌, ℕ, Bool, true, false, List, [], ◌∷◌, ◌++◌, map, Option, Some, is_some}
 use Rattle.std.specs.List.{filter_map}
-use Rattle.link_base.specs.declared.names.Drb.{Drb}
 use Rattle.link_base.specs.declared.names.Key.{Key}
 use Rattle.link_base.specs.declared.names.PortName.{PortName}
 use Rattle.link_base.specs.declared.names.PortName.TheVariants.{Direct}
-use Rattle.link_base.specs.declared.names.Remote.{Remote}
 use Rattle.link_base.specs.declared.names.Side.{Side}
 use Rattle.bearer_map.specs.Contents.{Contents, AreBearers}
 use Rattle.rlc_model.specs.declared.hop.Pdu.{Pdu}
-use Rattle.link_base.specs.declared.rlc_words.Tag.{Tag}
 use Rattle.rlc_model.specs.Hop.{on_air}
-use Rattle.rlc_model.specs.Tx.{Kept, kept_at}
 use Rattle.pdcp_model.specs.Sender.{confirmed, submitted}
-use Rattle.node_end.specs.Direct.{IsDirectPort}
 use Rattle.rlc_model.specs.Sides.{Entity, hearer_of, way_from}
 use Rattle.script_text.specs.declared.line.Line.{Line}
 use Rattle.script_text.specs.declared.line.Line.TheVariants.{Submit, Grant, Deliver, Repeat, Lose, Expire, Report}
@@ -109,16 +104,6 @@ confirmed_of c (Some key) = confirmed (sender_at c key)
 abbrev pub risen : Chain → Option Key → ℕ → List Event
 risen c None before = []
 risen c (Some key) before = if has_bearer c.tables key.remote key.drb && nat_lt before (confirmed (sender_at c key)) then Conf key (confirmed (sender_at c key)) ∷ [] else []
-
--- what a transmitter keeps of a data PDU is of this key
-abbrev pub IsOwnTag : Key → Tag → Type 0
-IsOwnTag key tag = (count : ℕ) → tag.count ≡ Some count → tag.key ≡ key
-
--- each open port is a direct one, and its transmitters keep data PDUs of the key alone that they send
-pub record HasOwnTags (c : Chain) : Type 0 where
-  pub direct : (side : Side) (port : PortName) (e : Entity) → entity_on c side port ≡ Some e → IsDirectPort port
-  pub tags : (side : Side) (remote : Remote) (drb : Drb) (e : Entity) → entity_on c side (Direct remote drb) ≡ Some e
-      → (n : ℕ) (k : Kept) → kept_at e.tx n ≡ Some k → IsOwnTag (key_of remote drb (way_from side)) k.tag
 
 -- the events logged are those of the line, which is carried out and after which the ends feed
 pub record Plays (old : Chain) (line : Line) (log log' : List Event) (reply : Reply) (new : Chain) : Type 0 where

@@ -11,7 +11,8 @@ ghost use Rattle.chain_model.specs.State.{Chain as AChain, opened, entity_on};
 ghost use Rattle.chain_model.specs.Lines.{Granted, is_handed_over};
 ghost use Rattle.chain_model.specs.Steps.{Does, reporting};
 ghost use Rattle.node_model.specs.Tables.{has_bearer, keys, keys_of_row};
-ghost use Rattle.chain_core.specs.Chain.{HasEnds, HasSmallNumbers, Carries, Arrives, Feeds, HasOwnTags, Plays, watched, key_heard, confirmed_of, risen, total_of, is_direct_line};
+ghost use Rattle.chain_core.specs.Chain.{HasEnds, HasSmallNumbers, Carries, Arrives, Feeds, Plays, watched, key_heard, confirmed_of, risen, total_of, is_direct_line};
+ghost use Rattle.direct_run_law.specs.Own.{HasOwnTags};
 ghost use Rattle.chain_core.specs.Nodes.{node_in, IsSmallAt, HaveNumbers};
 ghost use Rattle.chain_core.specs.Told.{Tells};
 

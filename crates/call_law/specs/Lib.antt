@@ -1,0 +1,3 @@
+pub mod Foundations
+pub mod Laws
+pub mod Lines
