@@ -10,5 +10,5 @@ mod laws;
 
 pub use laws::{
     hand_ups_are_exact, heard_tickets_are_told, histories_tell_the_chain,
-    receivers_have_what_was_delivered, what_comes_is_delivered,
+    receivers_have_what_was_delivered, reports_are_true, what_comes_is_delivered,
 };
