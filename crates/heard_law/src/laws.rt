@@ -45,7 +45,7 @@ pub fn receivers_have_what_was_delivered()
 /// A law: behind each run, whatever its lines, what was handed up of each key is at each moment the SDUs of the longest run of
 /// COUNTs from the first one on that the bytes of the delivered PDUs complete (TS 38.323 clause 5.2.2.1). It is said where each
 /// chain is orderly, so that an SDU leads to one target.
-pub fn hand_ups_are_exact()
+pub fn orderly_hand_ups_are_exact()
     ensures { OrderlyHandUpsAreExact }
 {
     laws_of_hops();

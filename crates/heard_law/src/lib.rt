@@ -9,6 +9,6 @@ mod foundations;
 mod laws;
 
 pub use laws::{
-    hand_ups_are_exact, heard_tickets_are_told, histories_tell_the_chain,
+    heard_tickets_are_told, histories_tell_the_chain, orderly_hand_ups_are_exact,
     receivers_have_what_was_delivered, reports_are_true, what_comes_is_delivered,
 };

@@ -1,7 +1,9 @@
 // What each run keeps in order.
+ghost use Rattle.heard_law.specs.HandingUp.{HandUpsAreExact};
 ghost use Rattle.orderly_law.specs.Laws.{SidesAreFound, RunsKeepChainsOrderly, RunsHaveOneOutcome};
 
 use chain_law::laws_of_ports;
+use heard_law::orderly_hand_ups_are_exact;
 use step_law::a_step_has_one_outcome;
 
 /// A law: at each node of each chain that comes up in a run no name of a port stands twice, so each side is found by its port's
@@ -28,4 +30,13 @@ pub fn runs_have_one_outcome()
 {
     runs_keep_chains_orderly();
     a_step_has_one_outcome();
+}
+
+/// A law: behind each run, whatever its lines and paths, what was handed up of each key is at each moment the SDUs of the longest
+/// run of COUNTs from the first one on that the bytes of the delivered PDUs complete (TS 38.323 clause 5.2.2.1).
+pub fn hand_ups_are_exact()
+    ensures { HandUpsAreExact }
+{
+    orderly_hand_ups_are_exact();
+    runs_keep_chains_orderly();
 }

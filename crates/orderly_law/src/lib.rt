@@ -7,4 +7,6 @@
 
 mod laws;
 
-pub use laws::{runs_have_one_outcome, runs_keep_chains_orderly, sides_are_found};
+pub use laws::{
+    hand_ups_are_exact, runs_have_one_outcome, runs_keep_chains_orderly, sides_are_found,
+};
