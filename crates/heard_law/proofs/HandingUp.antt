@@ -162,8 +162,8 @@ module _ (t : Contents) (opens : ComesUp (opened t)) where
   all_once once [] c passes = tt
   all_once once (m ∷ ms) c (before, goes) = (once m.before (comes_up ms m.before before), all_once once ms m.before before)
 
-pub hand_ups_are_exact : HeardLaws → HearingLaws → OrderlyHandUpsAreExact
-hand_ups_are_exact laws hearings orderly h stage c leads row key its =
+pub orderly_hand_ups : HeardLaws → HearingLaws → OrderlyHandUpsAreExact
+orderly_hand_ups laws hearings orderly h stage c leads row key its =
     subst (λ (u : Contents). HandsUpExactly u row key (entries h)) (sym tables) (subst (HandsUpExactly p.tables row key) (sym p.are)
     (exact laws hearings p.tables (subst TablesApart tables (comes_hold laws.ports (behind h stage leads)).apart) p.are_tables p.declared p.declare row key
     (subst (λ (u : Contents). IsRowOf u key row) tables its)
