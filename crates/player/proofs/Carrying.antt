@@ -1,34 +1,158 @@
 -- A player that carries out a line.
-use Rattle.std.proofs.Common.{◌≡◌, ℕ, true, false, List, ◌∷◌, ◌++◌, sym, ◌∙◌, ap, subst}
-use Rattle.std.specs.Prelude.{Ok, Some}
-use Rattle.script_text.specs.declared.stage.ScriptStage.{ScriptStage}
-use Rattle.script_text.specs.declared.line.Line.{Line}
+use Rattle.std.proofs.Common.{◌≡◌, ℕ, true, false, List, [], ◌∷◌, ◌++◌, Option, Some, None, is_some, Ok, Err, refl, sym, ◌∙◌, ap, subst}
+use Rattle.std.proofs.lemmas.Bool.{false≢true}
+use Rattle.std.proofs.lemmas.List.Elements.{recursion_from_All}
+use Rattle.std.specs.Prelude.{Result}
+use Rattle.link_base.specs.declared.names.Key.{Key}
+use Rattle.bearer_map.specs.declared.rows.BearerRow.{BearerRow}
+use Rattle.bearer_map.specs.Contents.{Contents}
+use Rattle.bearer_map.specs.declared.rows.TableFault.{TableFault}
 use Rattle.script_text.specs.declared.event.Event.{Event}
+use Rattle.script_text.specs.declared.line.Line.{Line}
+use Rattle.script_text.specs.declared.line.Line.TheVariants.{Path, Go, Submit, Drain}
 use Rattle.script_text.specs.declared.reply.Reply.{Reply}
-use Rattle.script_text.specs.Words.{words_of}
-use Rattle.script_text.specs.Lines.{is_skipped, Spells}
+use Rattle.script_text.specs.declared.reply.Reply.TheVariants.{Ok as OkReply}
+use Rattle.script_text.specs.declared.stage.Part.{Part}
+use Rattle.script_text.specs.declared.stage.Part.TheVariants.{Start, Tables, Running, Ended}
+use Rattle.script_text.specs.declared.stage.ScriptStage.{ScriptStage}
 use Rattle.script_text.specs.Grammar.{Parses}
-use Rattle.script_text.specs.Texts.{entry_text}
 use Rattle.script_text.specs.History.{Entry, trace}
-use Rattle.direct_model.specs.Tables.{table_of, contents, is_carried}
-use Rattle.direct_model.specs.Chain.{Chain}
-use Rattle.direct_model.specs.Steps.{Step, LeadsTo}
+use Rattle.script_text.specs.Lines.{part_of}
+use Rattle.script_text.specs.Stages.{after, entered, is_past_go, part_after, tables_after}
+use Rattle.script_text.specs.Texts.{entry_text}
+use Rattle.chain_model.specs.Book.{IsBook}
+use Rattle.chain_model.specs.Carried.{IsRowOf}
+use Rattle.chain_model.specs.Runs.{Turn, entries, contents, Behaves, Turns, LeadsTo}
+use Rattle.chain_model.specs.State.{Chain, opened}
+use Rattle.book_law.specs.Laws.{HandsUpInOrder}
+use Rattle.node_end.specs.Direct.{AreDirect, BeginsDirect}
+use Rattle.chain_core.specs.Chain.{is_direct_line}
+use Rattle.call_law.specs.Lines.{keeps_direct, EachKeepsDirect}
+use Rattle.player.specs.declared.player_state.Player.{Player}
+use Rattle.player.specs.declared.player_state.Progress.TheVariants.{Carried}
+use Rattle.player.specs.Carried.{is_carried}
+use Rattle.player.specs.Ended.{is_ended}
+use Rattle.player.proofs.Complete.{never_ended}
+use Rattle.player.specs.Carrying.{CanCarry, CanOpen, is_end}
+use Rattle.player.specs.Foundations.{LineLaws, RunLaws}
+use Rattle.player.specs.Plays.{chain_or, turn_of, AreCarried, Plays, ReadsText}
+
+-- no line has its place behind the end line
+no_line_ended : (line : Line) → part_of line ≡ Ended → ⊥
+no_line_ended line e = false≢true (sym (never_ended line) ∙ ap is_ended e)
+
+-- a line of a player that has a chain stands behind go, and one of a player that has none before it
+running : (line : Line) (part : Part) → part_of line ≡ part → true ≡ is_past_go part → part_of line ≡ Running
+running line Start at runs = absurd (false≢true (sym runs))
+running line Tables at runs = absurd (false≢true (sym runs))
+running line Running at runs = at
+running line Ended at runs = absurd (no_line_ended line at)
+
+not_running : (line : Line) (part : Part) → part_of line ≡ part → false ≡ is_past_go part → part_of line ≡ Running → ⊥
+not_running line part at runs is = false≢true (runs ∙ ap is_past_go (sym at ∙ is))
+
+-- the part of a script behind a line
+part_behind : (old : ScriptStage) (line : Line) (new : ScriptStage) → after old line ≡ Ok new → new.part ≡ part_after old.part line
+part_behind old line new = by (tables_after old.tables line)
+  where
+    by : (tables : Result (Option Contents) TableFault) → entered (part_after old.part line) tables ≡ Ok new → new.part ≡ part_after old.part line
+    by (Ok t) e = sym (same_part e)
+      where
+        same_part : {a b : ScriptStage} → (let r : Result ScriptStage TableFault = Ok a in r) ≡ Ok b → a.part ≡ b.part
+        same_part e = cc
+    by (Err fault) e = absurd cc
+
+-- of a line of the tables it doesn't matter which chain was there before
+turns_from : (part : Part) (old mid : ScriptStage) (before : Option Chain) (t : Turn) (new : Chain) → is_some before ≡ is_past_go part
+    → Turns part mid (chain_or mid before) t new → Turns part mid (chain_or old before) t new
+turns_from part old mid (Some c) t new runs x = x
+turns_from Start old mid None t new runs x = x
+turns_from Tables old mid None t new runs x = x
+turns_from Running old mid None t new runs x = absurd (false≢true runs)
+turns_from Ended old mid None t new runs x = x
 
 -- a line that was read and carried out is one more entry
-pub reads_on : (old mid new : ScriptStage) (before behind : Chain) (text : List ℕ) (line : Line) (events : List Event) (reply : Reply) (h : List Entry) (out out' : List ℕ)
-    → Parses old text (Ok (Some line)) mid → is_carried (contents mid) line ≡ true → Step (table_of (contents mid)) before line events reply behind → new ≡ mid → LeadsTo h old before
-    → out ≡ trace h → out' ≡ out ++ entry_text line events reply
-    → (is_skipped text ≡ false) × (e : Entry) × Spells (words_of text) e.line × LeadsTo (e ∷ h) new behind × (out' ≡ trace (e ∷ h))
-reads_on old mid new before behind text line events reply h out out' parsed carried step same leads written added = (
+pub reads_on : (p q : Player) (mid : ScriptStage) (text : List ℕ) (line : Line) (events : List Event) (reply : Reply) (h : List Turn) (out out' : List ℕ)
+    → Parses p.stage text (Ok (Some line)) mid → is_carried line ≡ true → q.stage ≡ mid
+    → Turns (part_of line) mid (chain_or mid p.chain) (turn_of line events reply) (chain_or mid q.chain)
+    → is_some q.chain ≡ is_past_go (part_after (part_of line) line)
+    → Plays p h → out ≡ trace (entries h) → out' ≡ out ++ entry_text line events reply → ReadsText text h p.stage Carried q out'
+reads_on p q mid text line events reply h out out' parsed carried same turns runs plays written added = (
   parsed.0,
-  record { line = line; events = events; reply = reply },
+  turn_of line events reply,
   parsed.2.spelt,
-  (
-    old,
-    before,
-    leads,
-    record { part = parsed.2.stands; enters = parsed.3 ∙ ap (λ (s : ScriptStage). Ok s) (sym same); carried = ap (λ (s : ScriptStage). is_carried (contents s) line) same ∙ carried },
-    subst (λ (s : ScriptStage). Step (table_of (contents s)) before line events reply behind) (sym same) step,
-  ),
+  record {
+    leads = subst (λ (s : ScriptStage). LeadsTo (turn_of line events reply ∷ h) s (chain_or s q.chain)) (sym same) (
+      p.stage,
+      chain_or p.stage p.chain,
+      plays.leads,
+      record { part = parsed.2.stands; enters = parsed.3 },
+      turns_from (part_of line) p.stage mid p.chain (turn_of line events reply) (chain_or mid q.chain) (plays.runs ∙ ap is_past_go (sym parsed.2.stands)) turns,
+    );
+    carried = (carried, plays.carried);
+    runs = runs ∙ (ap (λ (part : Part). is_past_go (part_after part line)) parsed.2.stands ∙ (ap is_past_go (sym (part_behind p.stage line mid parsed.3)) ∙ ap (λ (s : ScriptStage). is_past_go s.part) (sym same)));
+  },
   added ∙ ap (λ (l : List ℕ). l ++ entry_text line events reply) written,
 )
+
+-- a line that is carried out has no lines of a drain before it
+no_inner : (line : Line) (old : Chain) (inner : List Entry) (events : List Event) (reply : Reply) (new : Chain) → is_carried line ≡ true → Behaves old inner line events reply new → inner ≡ []
+no_inner Drain old inner events reply new carried x = absurd (false≢true carried)
+no_inner line old inner events reply new carried x = x.0
+
+none_inner : (part : Part) (stage : ScriptStage) (old : Chain) (t : Turn) (new : Chain) → is_carried t.entry.line ≡ true → Turns part stage old t new → t.inner ≡ []
+none_inner Running stage old t new carried x = no_inner t.entry.line old t.inner t.entry.events t.entry.reply new carried x
+none_inner Start stage old t new carried x = x.0
+none_inner Tables stage old t new carried x = x.0
+none_inner Ended stage old t new carried x = x.0
+
+-- a line that is carried out keeps to direct paths
+direct_line : (line : Line) → is_carried line ≡ true → keeps_direct line ≡ true
+direct_line (Path remote goal) carried = carried
+direct_line line carried = cc
+
+keeps_to_direct : (h : List Turn) (stage : ScriptStage) (c : Chain) → LeadsTo h stage c → AreCarried h → EachKeepsDirect (entries h)
+keeps_to_direct [] stage c leads carried = tt
+keeps_to_direct (t ∷ h) stage c (s, before, older, stands, turns) (one, more) =
+    subst (λ (inner : List Entry). EachKeepsDirect (t.entry ∷ inner ++ entries h)) (sym (none_inner (part_of t.entry.line) stage before t c one turns))
+    (direct_line t.entry.line one, keeps_to_direct h s before older more)
+
+-- a line behind go that is carried out is one of direct ports, or the end
+direct_or_end : (line : Line) → is_carried line ≡ true → part_of line ≡ Running → is_end line ≡ false → is_direct_line line ≡ true
+direct_or_end (Submit key sdu) carried at no_end = refl
+direct_or_end line carried at no_end = cc
+
+-- a line that is read and carried out can be carried out
+module _ (laws : LineLaws) (p : Player) (mid : ScriptStage) (text : List ℕ) (line : Line) (h : List Turn) (parsed : Parses p.stage text (Ok (Some line)) mid)
+    (carried : is_carried line ≡ true) (plays : Plays p h) where
+  opens : line ≡ Go → CanOpen (contents mid)
+  opens is =
+      let t : Turn = turn_of Go [] OkReply in
+      let leads : LeadsTo (t ∷ h) mid (opened (contents mid)) =
+      (p.stage, chain_or p.stage p.chain, plays.leads, record { part = ap part_of (sym is) ∙ parsed.2.stands; enters = ap (after p.stage) (sym is) ∙ parsed.3 }, (refl, refl, refl, refl)) in
+      record {
+        direct = laws.direct (t ∷ h) mid (opened (contents mid)) leads (keeps_to_direct (t ∷ h) mid (opened (contents mid)) leads (refl, plays.carried));
+        counts = laws.counts (t ∷ h) mid (opened (contents mid)) leads;
+      }
+
+  pub can_carry : CanCarry mid p.chain line
+  can_carry = by p.chain refl
+    where
+      tables : (l : Line) → line ≡ l → (part_of l ≡ Running → ⊥) → CanCarry mid None l
+      tables Go is apart = opens is
+      tables l is apart = apart
+
+      by : (chain : Option Chain) → p.chain ≡ chain → CanCarry mid chain line
+      by (Some c) is =
+          let at = running line p.stage.part parsed.2.stands (sym (ap (λ (o : Option Chain). is_some o) is) ∙ plays.runs) in
+          let leads : LeadsTo h p.stage c = subst (λ (o : Option Chain). LeadsTo h p.stage (chain_or p.stage o)) is plays.leads in
+          (at, record { direct = direct_or_end line carried at; step = laws.steps h p.stage c leads (keeps_to_direct h p.stage c leads plays.carried) })
+      by None is = tables line refl (not_running line p.stage.part parsed.2.stands (sym (ap (λ (o : Option Chain). is_some o) is) ∙ plays.runs))
+
+-- a run keeps the book of each bearer
+pub keeps_books : RunLaws → (h : List Turn) (stage : ScriptStage) (c : Chain) → LeadsTo h stage c → AreCarried h
+    → (row : BearerRow) (key : Key) → IsRowOf c.tables key row → IsBook row key (entries h) × HandsUpInOrder (entries h) key
+keeps_books laws h stage c leads carried =
+    let keeps = keeps_to_direct h stage c leads carried in
+    let direct : AreDirect c.tables = subst AreDirect (sym (laws.declared h stage c leads)) (laws.direct h stage c leads keeps) in
+    laws.books h stage c leads (recursion_from_All BeginsDirect c.tables.remotes direct.paths) (laws.still (entries h) keeps)

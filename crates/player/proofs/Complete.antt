@@ -1,5 +1,5 @@
 -- A run over a script of the grammar comes to its end.
-use Rattle.std.proofs.Common.{◌≡◌, ◌⊎◌, ℕ, ◌+◌, ◌<◌, ◌≤◌, true, false, List, [], ◌∷◌, length, get_or, take, drop, cond, Option, Some, Result, Ok, Err, refl, sym, ◌∙◌, ap, subst, arith, inl, inr, length-append, length-take-le}
+use Rattle.std.proofs.Common.{◌≡◌, ◌⊎◌, ℕ, ◌+◌, ◌<◌, ◌≤◌, true, false, List, [], ◌∷◌, length, get_or, map, take, drop, cond, Option, Some, Result, Ok, Err, refl, sym, ◌∙◌, ap, subst, arith, inl, inr, length-append, length-take-le}
 use Rattle.std.proofs.lemmas.Bool.{cases_eq, cases_lt, false≢true}
 use Rattle.std.proofs.lemmas.List.{get_or-take}
 use Rattle.std.proofs.Math.Seq.{take-append_seam, take-length, drop-append-add, get_or-append_seam}
@@ -22,14 +22,14 @@ use Rattle.script_text.specs.History.{Entry, ReadsLines, Spelt}
 use Rattle.script_text.proofs.OneLine.{one_line}
 use Rattle.script_text.proofs.OneParse.{one_parse}
 use Rattle.script_text.proofs.SpeltIsRead.{spelt_is_read}
-use Rattle.direct_model.specs.Tables.{contents, is_carried}
-use Rattle.direct_model.specs.Chain.{Chain}
-use Rattle.direct_model.specs.Steps.{Stands, LeadsTo}
+use Rattle.chain_model.specs.Runs.{Turn, entries, Stands, LeadsTo}
+use Rattle.chain_model.specs.State.{Chain}
 use Rattle.player.specs.declared.play.Ending.{Ending}
 use Rattle.player.specs.declared.play.Ending.TheVariants.{Done, Later, Bad, TooLong}
-use Rattle.player.specs.Plays.{IsLater}
+use Rattle.player.specs.Carried.{is_carried}
+use Rattle.player.specs.Plays.{AreCarried, IsLater}
 use Rattle.player.specs.Ended.{is_ended}
-use Rattle.player.specs.Runs.{IsBadNext, Stops, LeadsToStage, ScriptsEnd}
+use Rattle.player.specs.Runs.{IsBadNext, Stops, LeadsToStage, ScriptsEnd, own_entry}
 
 -- a line is the front of the bytes that it splits off
 line_is : (bytes line after : List ℕ) → Splits bytes line after → take (length line) bytes ≡ line
@@ -112,12 +112,12 @@ leads_one (text ∷ texts) s t (inr x) (inr y) =
     same_stage s t (sym x.5.enters ∙ (ap (λ (u : ScriptStage). after u x.1) before ∙ (ap (λ (l : Line). after y.2 l) line ∙ y.5.enters)))
 
 -- the lines of a history lead to its stage
-pub leads_of : (texts : List (List ℕ)) (h : List Entry) (stage : ScriptStage) (c : Chain) → Spelt texts h → LeadsTo h stage c → LeadsToStage texts stage
-leads_of [] [] stage c x l = l.0
-leads_of [] (e ∷ h) stage c x l = absurd x
-leads_of (text ∷ texts) [] stage c x l = inl (x.0, leads_of texts [] stage c x.1 l)
-leads_of (text ∷ texts) (e ∷ h) stage c (inl x) l = inl (x.0, leads_of texts (e ∷ h) stage c x.1 l)
-leads_of (text ∷ texts) (e ∷ h) stage c (inr x) l = inr (x.0, e.line, l.0, leads_of texts h l.0 l.1 x.2 l.2, x.1, l.3)
+pub leads_of : (texts : List (List ℕ)) (h : List Turn) (stage : ScriptStage) (c : Chain) → Spelt texts (map own_entry h) → LeadsTo h stage c → AreCarried h → LeadsToStage texts stage
+leads_of [] [] stage c x l p = l.0
+leads_of [] (t ∷ h) stage c x l p = absurd x
+leads_of (text ∷ texts) [] stage c x l p = inl (x.0, leads_of texts [] stage c x.1 l p)
+leads_of (text ∷ texts) (t ∷ h) stage c (inl x) l p = inl (x.0, leads_of texts (t ∷ h) stage c x.1 l p)
+leads_of (text ∷ texts) (t ∷ h) stage c (inr x) l p = inr (x.0, t.entry.line, l.0, leads_of texts h l.0 l.1 x.2 l.2 p.1, x.1, l.3, p.0)
 
 -- lines without their newest lead to a stage too
 older_lead : (text : List ℕ) (texts : List (List ℕ)) (s : ScriptStage) → LeadsToStage (text ∷ texts) s → (before : ScriptStage) × LeadsToStage texts before
@@ -125,11 +125,11 @@ older_lead text texts s (inl x) = (s, x.1)
 older_lead text texts s (inr x) = (x.2, x.3)
 
 -- no line has its place behind the end line
-never_ended : (line : Line) → is_ended (part_of line) ≡ false
+pub never_ended : (line : Line) → is_ended (part_of line) ≡ false
 never_ended (Version n) = refl
 never_ended line = refl
 
-ended_none : (s t : ScriptStage) (line : Line) → is_ended s.part ≡ true → Stands s line t → ⊥
+pub ended_none : (s t : ScriptStage) (line : Line) → is_ended s.part ≡ true → Stands s line t → ⊥
 ended_none s t line is x = false≢true (sym (never_ended line) ∙ (ap is_ended x.part ∙ is))
 
 -- behind an ended stage the stage stays ended
@@ -237,9 +237,7 @@ module _ (texts : List (List ℕ)) (text : List ℕ) (s t : ScriptStage) (short 
   not_later (inl x) later = false≢true (sym (spelt_is_read s later.next text later.line short later.is_line later.enters).0 ∙ x.0)
   not_later (inr x) later =
       let line = one_line (words_of text) later.line x.1 later.is_line.spelt x.4 in
-      let same = leads_one texts s x.2 l x.3 in
-      let next : later.next ≡ t = same_stage later.next t (sym later.enters ∙ (ap (λ (u : ScriptStage). after u later.line) same ∙ (ap (λ (k : Line). after x.2 k) line ∙ x.5.enters))) in
-      false≢true (sym later.not_carried ∙ (ap (λ (u : ScriptStage). is_carried (contents u) later.line) next ∙ (ap (λ (k : Line). is_carried (contents t) k) line ∙ x.5.carried)))
+      false≢true (sym later.not_carried ∙ (ap is_carried line ∙ x.6))
 
 -- a run doesn't stop where the script goes on
 module _ (input : List ℕ) (texts : List (List ℕ)) (h : List Entry) (stage : ScriptStage) (c : Chain) (used : ℕ) (rest : List ℕ) (place : used + length rest ≡ length input) (l : LeadsToStage texts stage) (g : GoesOn input texts rest) where
@@ -288,18 +286,18 @@ ended_stops lines h stage c used rest TooLong out is x = absurd (false≢true (s
 
 pub scripts_end : ScriptsEnd
 scripts_end input ending out run script =
-    let leads : LeadsToStage run.texts run.stage = leads_of run.texts run.history run.stage run.chain run.spelt run.leads in
+    let leads : LeadsToStage run.texts run.stage = leads_of run.texts run.history run.stage run.chain run.spelt run.leads run.carried in
     elim (cases_lt (length run.texts) (length script.texts)) [
-      | inl less ↦ going_on_done input run.texts run.history run.stage run.chain run.used run.rest run.place leads (goes_on input run.texts run.rest script.texts script.rest script.stage run.reads script.reads script.leads less) ending out run.stops
+      | inl less ↦ going_on_done input run.texts (entries run.history) run.stage run.chain run.used run.rest run.place leads (goes_on input run.texts run.rest script.texts script.rest script.stage run.reads script.reads script.leads less) ending out run.stops
       | inr more ↦ elim (cases_eq (length run.texts) (length script.texts)) [
         | inl many ↦
             let same = reads_one input run.texts run.rest script.texts script.rest run.reads script.reads many in
             let stage : script.stage ≡ run.stage = leads_one script.texts script.stage run.stage script.leads (subst (λ (t : List (List ℕ)). LeadsToStage t run.stage) same.0 leads) in
             elim script.ends [
-              | inl ended ↦ ended_stops (length run.texts) run.history run.stage run.chain run.used run.rest ending out (ap (λ (u : ScriptStage). is_ended u.part) (sym stage) ∙ ended) run.stops
-              | inr over ↦ over_stops input run.texts run.history run.stage run.chain run.used run.rest run.place leads (ap (λ (u : ScriptStage). is_running u.part) (sym stage) ∙ over.0) (same.1 ∙ over.1) ending out run.reads run.stops
+              | inl ended ↦ ended_stops (length run.texts) (entries run.history) run.stage run.chain run.used run.rest ending out (ap (λ (u : ScriptStage). is_ended u.part) (sym stage) ∙ ended) run.stops
+              | inr over ↦ over_stops input run.texts (entries run.history) run.stage run.chain run.used run.rest run.place leads (ap (λ (u : ScriptStage). is_running u.part) (sym stage) ∙ over.0) (same.1 ∙ over.1) ending out run.reads run.stops
             ]
-        | inr ne ↦ ended_stops (length run.texts) run.history run.stage run.chain run.used run.rest ending out
+        | inr ne ↦ ended_stops (length run.texts) (entries run.history) run.stage run.chain run.used run.rest ending out
             (past_end input run.texts run.rest run.stage script.texts script.rest script.stage run.reads script.reads leads script.leads script.ends (omega arith)) run.stops
       ]
     ]

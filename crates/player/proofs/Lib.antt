@@ -1,10 +1,9 @@
-pub mod Receiving
-pub mod Passing
-pub mod OnAir
 pub mod Carrying
+pub mod Totals
 pub mod RunUnderWay
 pub mod Commands
 pub mod Complete
 pub mod OneEnding
+pub mod OneTrace
 pub mod Arguments
 pub mod Serving

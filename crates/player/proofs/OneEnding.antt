@@ -9,7 +9,8 @@ use Rattle.script_text.specs.Splits.{IsTooLong}
 use Rattle.script_text.specs.Grammar.{IsBad, IsFirstReason, reasons}
 use Rattle.script_text.specs.History.{Entry, ReadsLines}
 use Rattle.script_text.proofs.OneParse.{one_first, none_first}
-use Rattle.direct_model.specs.Chain.{Chain}
+use Rattle.chain_model.specs.Runs.{entries}
+use Rattle.chain_model.specs.State.{Chain}
 use Rattle.player.specs.declared.play.Ending.{Ending}
 use Rattle.player.specs.declared.play.Ending.TheVariants.{Done, Later, Bad, TooLong}
 use Rattle.player.specs.Plays.{IsLater}
@@ -75,18 +76,18 @@ module _ (input : List ℕ) (texts : List (List ℕ)) (rest : List ℕ) (stage :
   one_stop h h' c c' TooLong TooLong out out' x y = refl
 
 -- the lines of a run lead to its stage
-lead : (input : List ℕ) (ending : Ending) (out : List ℕ) (p : IsRun input ending out) → LeadsToStage p.texts p.stage
-lead input ending out p = leads_of p.texts p.history p.stage p.chain p.spelt p.leads
+pub lead : (input : List ℕ) (ending : Ending) (out : List ℕ) (p : IsRun input ending out) → LeadsToStage p.texts p.stage
+lead input ending out p = leads_of p.texts p.history p.stage p.chain p.spelt p.leads p.carried
 
 -- of two runs that read different numbers of lines both are done
-fewer : (input : List ℕ) (a b : Ending) (out out' : List ℕ) (p : IsRun input a out) (q : IsRun input b out') → length p.texts < length q.texts → (a ≡ Done) × (b ≡ Done)
+pub fewer : (input : List ℕ) (a b : Ending) (out out' : List ℕ) (p : IsRun input a out) (q : IsRun input b out') → length p.texts < length q.texts → (a ≡ Done) × (b ≡ Done)
 fewer input a b out out' p q less =
     let from = lead input a out p in
     let on = lead input b out' q in
-    let done : a ≡ Done = going_on_done input p.texts p.history p.stage p.chain p.used p.rest p.place from (goes_on input p.texts p.rest q.texts q.rest q.stage p.reads q.reads on less) a out p.stops in
-    let ends : IsEnd p.stage p.rest = (subst (λ (e : Ending). Stops (length p.texts) p.history p.stage p.chain p.used p.rest e out) done p.stops).0 in
+    let done : a ≡ Done = going_on_done input p.texts (entries p.history) p.stage p.chain p.used p.rest p.place from (goes_on input p.texts p.rest q.texts q.rest q.stage p.reads q.reads on less) a out p.stops in
+    let ends : IsEnd p.stage p.rest = (subst (λ (e : Ending). Stops (length p.texts) (entries p.history) p.stage p.chain p.used p.rest e out) done p.stops).0 in
     let ended = past_end input q.texts q.rest q.stage p.texts p.rest p.stage q.reads p.reads on from ends less in
-    (done, ended_stops (length q.texts) q.history q.stage q.chain q.used q.rest b out' ended q.stops)
+    (done, ended_stops (length q.texts) (entries q.history) q.stage q.chain q.used q.rest b out' ended q.stops)
 
 pub one_ending : OneEnding
 one_ending input a b out out' p q = elim (cases_lt (length p.texts) (length q.texts)) [
@@ -103,12 +104,12 @@ one_ending input a b out out' p q = elim (cases_lt (length p.texts) (length q.te
         let from = lead input a out p in
         let stage : q.stage ≡ p.stage = leads_one q.texts q.stage p.stage (lead input b out' q) (subst (λ (t : List (List ℕ)). LeadsToStage t p.stage) same.0 from) in
         let used : q.used ≡ p.used = omega (arith, p.place, q.place, ap length same.1) in
-        let stops : Stops (length p.texts) q.history p.stage q.chain p.used p.rest b out' =
-        subst (λ (n : ℕ). Stops n q.history p.stage q.chain p.used p.rest b out') (sym many)
-        (subst (λ (s : ScriptStage). Stops (length q.texts) q.history s q.chain p.used p.rest b out') stage
-        (subst (λ (n : ℕ). Stops (length q.texts) q.history q.stage q.chain n p.rest b out') used
-        (subst (λ (l : List ℕ). Stops (length q.texts) q.history q.stage q.chain q.used l b out') (sym same.1) q.stops))) in
-        (one_stop input p.texts p.rest p.stage p.used p.place p.reads from p.history q.history p.chain q.chain a b out out' p.stops stops, λ ne. same.0)
+        let stops : Stops (length p.texts) (entries q.history) p.stage q.chain p.used p.rest b out' =
+        subst (λ (n : ℕ). Stops n (entries q.history) p.stage q.chain p.used p.rest b out') (sym many)
+        (subst (λ (s : ScriptStage). Stops (length q.texts) (entries q.history) s q.chain p.used p.rest b out') stage
+        (subst (λ (n : ℕ). Stops (length q.texts) (entries q.history) q.stage q.chain n p.rest b out') used
+        (subst (λ (l : List ℕ). Stops (length q.texts) (entries q.history) q.stage q.chain q.used l b out') (sym same.1) q.stops))) in
+        (one_stop input p.texts p.rest p.stage p.used p.place p.reads from (entries p.history) (entries q.history) p.chain q.chain a b out out' p.stops stops, λ ne. same.0)
 
 -- what was read is one input, and its run has one ending
 pub one_status : OneStatus

@@ -1,12 +1,11 @@
 pub mod Arguments
 pub mod Commands
+pub mod Carried
+pub mod Carrying
 pub mod Ended
-pub mod Finishes
+pub mod Foundations
 pub mod Outcome
-pub mod Playable
 pub mod Plays
-pub mod Receives
 pub mod Runs
 pub mod Serves
-pub mod Session
 pub mod Turns

@@ -1,6 +1,8 @@
 // What holds of runs alone.
 ghost use Rattle.player.specs.Outcome.{OneStatus};
-ghost use Rattle.player.specs.Runs.{OneEnding, ScriptsEnd};
+ghost use Rattle.player.specs.Runs.{OneEnding, OneText, ScriptsEnd};
+
+use orderly_law::runs_have_one_outcome;
 
 /// A law: a run over a script of the grammar comes to its end, `done`.
 pub fn scripts_end()
@@ -16,3 +18,10 @@ pub fn one_ending()
 pub fn one_status()
     ensures { OneStatus }
 {}
+
+/// A law: all runs over an input write one text. So the bytes of a script determine its trace.
+pub fn one_text()
+    ensures { OneText }
+{
+    runs_have_one_outcome();
+}

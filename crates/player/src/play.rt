@@ -1,18 +1,17 @@
 // A whole run over the bytes of a script.
-ghost use Rattle.std.specs.Prelude.{◌≡◌, ◌++◌, List, [], IfOk, OnOk, string_bytes};
+ghost use Rattle.std.specs.Prelude.{◌≡◌, ◌++◌, List, [], IfOk, IsSome, OnOk, string_bytes};
 ghost use Rattle.script_text.specs.Texts.{bad_text, reason_text, too_long_text};
-ghost use Rattle.script_text.specs.History.{Entry, trace};
-ghost use Rattle.direct_law.specs.Fits.{Fits};
-ghost use Rattle.player.specs.Plays.{Plays};
-ghost use Rattle.player.specs.Turns.{TurnsAt, StopsAtEnd};
+ghost use Rattle.script_text.specs.History.{trace};
+ghost use Rattle.chain_model.specs.Runs.{Turn, entries};
+ghost use Rattle.player.specs.Plays.{Plays, IsUnderWay};
+ghost use Rattle.player.specs.Turns.{TurnsAt, StopsAtEnd, Finishes};
 ghost use Rattle.player.specs.Runs.{IsRun};
-ghost use Rattle.player.specs.Finishes.{Finishes, TotalsOf};
 
-use crate::{Player, Progress, Session};
-use link_base::{Key, Memory, Way};
+use crate::foundations::laws_of_runs;
+use crate::{Player, Progress};
+use link_base::Memory;
 use script_text::{
-    NextLine, Reason, Total, TotalList, next_line_of, push_bad_line, push_too_long,
-    push_totals_and_done,
+    NextLine, Reason, next_line_of, push_bad_line, push_too_long, push_totals_and_done,
 };
 use std::alloc::Global;
 
@@ -46,15 +45,15 @@ fn play_lines(
     out: &mut String,
 ) -> Result<Ending, Memory>
     requires plays { Plays player.old [] }
-    requires fits { Fits player.old.session }
     requires empty { string_bytes out.old ≡ [] }
     ensures { IfOk result (λ ending. IsRun input.now ending (string_bytes out.new)) }
 {
+    laws_of_runs();
     let mut rest = input;
     let mut number: u64 = 1;
     loop {
         if player.has_ended() {
-            let ending = end(alloc, &player.session, out)?;
+            let ending = end(player, out)?;
             return Ok(ending);
         }
         match next_line_of(rest, input.len() - rest.len()) {
@@ -74,7 +73,7 @@ fn play_lines(
                 return Ok(ending);
             }
             NextLine::End => {
-                let ending = stop_at_end(alloc, player, out, number)?;
+                let ending = stop_at_end(player, out, number)?;
                 return Ok(ending);
             }
         }
@@ -89,10 +88,10 @@ fn read_line(
     text: &[u8],
     number: u64,
 ) -> Result<Option<Ending>, Memory>
-    requires fits { Fits player.old.session }
-    ensures reads { (h : List Entry) → Plays player.old h → string_bytes out.old ≡ trace h →
-        IfOk result (λ ending. TurnsAt text.now h player.old.stage number ending player.new (string_bytes out.new)) }
-    ensures fits { OnOk result (Fits player.new.session) }
+    requires { IsUnderWay player.old }
+    ensures { (h : List Turn) → Plays player.old h → string_bytes out.old ≡ trace (entries h) →
+        IfOk result (λ ending.
+        TurnsAt text.now h player.old.stage number ending player.new (string_bytes out.new)) }
 {
     match player.read(alloc, out, text)? {
         Progress::Skipped | Progress::Carried => Ok(None),
@@ -128,18 +127,14 @@ fn stop_past_limit(out: &mut String) -> Result<Ending, Memory>
 }
 
 /// The run stops at the input's end, where a line would have this number.
-fn stop_at_end(
-    alloc: Global,
-    player: &Player,
-    out: &mut String,
-    number: u64,
-) -> Result<Ending, Memory>
+fn stop_at_end(player: &Player, out: &mut String, number: u64) -> Result<Ending, Memory>
+    requires { IsUnderWay player.now }
     ensures { IfOk result
         (λ ending. StopsAtEnd player.now number (string_bytes out.old) ending
         (string_bytes out.new)) }
 {
     if player.is_running() {
-        let ending = end(alloc, &player.session, out)?;
+        let ending = end(player, out)?;
         return Ok(ending);
     }
     let ending = stop_at(out, number, Reason::End)?;
@@ -147,48 +142,22 @@ fn stop_at_end(
 }
 
 /// The run comes to its end.
-fn end(alloc: Global, session: &Session, out: &mut String) -> Result<Ending, Memory>
+fn end(player: &Player, out: &mut String) -> Result<Ending, Memory>
+    requires { IsSome player.now.chain }
     ensures { IfOk result
         (λ ending. (ending ≡ Ending.Done)
-        × Finishes session.now (string_bytes out.old) (string_bytes out.new)) }
+        × Finishes player.now (string_bytes out.old) (string_bytes out.new)) }
 {
-    finish(alloc, session, out)?;
+    finish(player, out)?;
     Ok(Ending::Done)
 }
 
 /// Adds the totals of a run that came to its end, and its last line.
-fn finish(alloc: Global, session: &Session, out: &mut String) -> Result<(), Memory>
-    ensures { OnOk result (Finishes session.now (string_bytes out.old) (string_bytes out.new)) }
+fn finish(player: &Player, out: &mut String) -> Result<(), Memory>
+    requires { IsSome player.now.chain }
+    ensures { OnOk result (Finishes player.now (string_bytes out.old) (string_bytes out.new)) }
 {
-    let totals = totals(alloc, session)?;
+    let totals = player.totals()?;
     push_totals_and_done(out, totals.as_slice())?;
     Ok(())
-}
-
-/// The totals of the bearer, where there is one: uplink, and downlink, where nothing goes.
-fn totals(alloc: Global, session: &Session) -> Result<TotalList, Memory>
-    ensures { IfOk result (TotalsOf session.now) }
-{
-    let mut totals = TotalList::new(alloc);
-    let Some(uplink) = session.key() else {
-        return Ok(totals);
-    };
-    totals.push(Total {
-        key: uplink,
-        submitted: session.submitted(),
-        handed: session.handed(),
-        confirmed: session.confirmed(),
-    })?;
-    let downlink = Key {
-        remote: uplink.remote,
-        drb: uplink.drb,
-        way: Way::Dl,
-    };
-    totals.push(Total {
-        key: downlink,
-        submitted: 0,
-        handed: 0,
-        confirmed: 0,
-    })?;
-    Ok(totals)
 }

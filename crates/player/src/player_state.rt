@@ -1,8 +1,21 @@
 // A player reads one line after the other.
-use crate::Session;
-use crate::carried::{is_carried, table};
+ghost use Rattle.std.specs.Prelude.{◌≡◌, [], IfOk, OnOk, is_some};
+ghost use Rattle.script_text.specs.Lines.{part_of};
+ghost use Rattle.script_text.specs.Stages.{is_past_go, part_after};
+ghost use Rattle.chain_model.specs.Runs.{Behaves, Turns, contents};
+ghost use Rattle.chain_model.specs.State.{opened};
+ghost use Rattle.player.specs.Plays.{chain_or, turn_of};
+ghost use Rattle.player.specs.Carrying.{CanCarry, CanOpen, CanPlay, is_end};
+
+use crate::carried::is_carried;
+use crate::foundations::laws_of_lines;
+use bearer_map::Tables;
+use chain_core::Chain;
 use link_base::Memory;
-use script_text::{Line, LineFault, Part, Reason, ScriptStage, parse_line, push_answer};
+use script_text::{
+    EventList, Line, LineFault, Part, Reason, Reply, ScriptStage, TotalList, parse_line,
+    push_answer,
+};
 use std::alloc::Global;
 
 /// What became of a line.
@@ -21,31 +34,29 @@ pub enum Progress {
 /// A script that is under way.
 #[derive(Drop)]
 pub struct Player {
-    /// How far the script has come.
+    /// How far the script has come, and what its table lines have declared.
     pub stage: ScriptStage,
-    /// The bearer's ends and the air between them.
-    pub session: Session,
+    /// The chain that the tables opened, behind `go`.
+    pub chain: Option<Chain>,
 }
 
 impl Player {
-    ghost use Rattle.std.specs.Prelude.{◌≡◌, ◌++◌, List, [], IfOk, OnOk, string_bytes};
-    ghost use Rattle.script_text.specs.Texts.{entry_text, is_running};
-    ghost use Rattle.script_text.specs.History.{Entry, trace};
-    ghost use Rattle.direct_model.specs.Tables.{table_of, contents};
-    ghost use Rattle.direct_model.specs.Steps.{Step};
-    ghost use Rattle.direct_law.specs.Fits.{Fits};
+    ghost use Rattle.std.specs.Prelude.{◌≡◌, ◌++◌, List, [], map, Some, IsSome, IfOk, string_bytes};
+    ghost use Rattle.script_text.specs.Texts.{is_running};
+    ghost use Rattle.script_text.specs.History.{trace};
+    ghost use Rattle.chain_model.specs.Runs.{Turn, entries};
     ghost use Rattle.player.specs.Ended.{is_ended};
-    ghost use Rattle.player.specs.Playable.{IsPlayable};
-    ghost use Rattle.player.specs.Plays.{Plays, ReadsText};
+    ghost use Rattle.chain_model.specs.State.{Chain};
+    ghost use Rattle.node_model.specs.Tables.{keys};
+    ghost use Rattle.chain_core.specs.Chain.{total_of};
+    ghost use Rattle.player.specs.Plays.{Plays, IsUnderWay, ReadsText};
 
     /// A player that has read nothing.
     pub fn new(alloc: Global) -> Result<Self, Memory>
-        ensures plays { IfOk result (λ player. Plays player []) }
-        ensures fits { IfOk result (λ player. Fits player.session) }
+        ensures { IfOk result (λ player. Plays player []) }
     {
         let stage = ScriptStage::new(alloc)?;
-        let session = Session::new(alloc, table(&stage))?;
-        Ok(Player { stage, session })
+        Ok(Player { stage, chain: None })
     }
 
     /// Whether an `end` line was carried out.
@@ -62,40 +73,97 @@ impl Player {
         matches!(self.stage.part(), Part::Running)
     }
 
-    /// Reads a line, carries it out, and adds what it prints to the text.
+    /// What became of each key, in key order. It needs a player that has a chain.
+    pub fn totals(&self) -> Result<TotalList, Memory>
+        requires { IsSome self.now.chain }
+        ensures { (chain : Chain) → self.now.chain ≡ Some chain → IfOk result
+            (λ totals. totals ≡ map (total_of chain) (keys chain.tables)) }
+    {
+        let Some(chain) = &self.chain else {
+            unreachable!()
+        };
+        chain.totals()
+    }
+
+    /// Reads a line, carries it out, and adds what it prints to the text. It needs a player to which some lines have led.
     pub fn read(&mut self, alloc: Global, out: &mut String, text: &[u8]) -> Result<Progress, Memory>
-        requires fits { Fits self.old.session }
-        ensures reads { (h : List Entry) → Plays self.old h → string_bytes out.old ≡ trace h →
-            IfOk result (λ progress. ReadsText text.now h self.old.stage progress self.new (string_bytes out.new)) }
-        ensures fits { OnOk result (Fits self.new.session) }
+        requires { IsUnderWay self.old }
+        ensures { (h : List Turn) → Plays self.old h → string_bytes out.old ≡ trace (entries h) →
+            IfOk result (λ progress.
+            ReadsText text.now h self.old.stage progress self.new (string_bytes out.new)) }
     {
         match parse_line(alloc, &mut self.stage, text) {
             Ok(None) => Ok(Progress::Skipped),
             Err(LineFault::Bad(reason)) => Ok(Progress::Bad(reason)),
             Err(LineFault::Memory) => Err(Memory),
             Ok(Some(line)) => {
-                if !is_carried(&self.stage, &line) {
+                if !is_carried(&line) {
                     return Ok(Progress::Later);
                 }
-                self.carry(alloc, out, &line)?;
+                laws_of_lines();
+                let mut events = EventList::new(alloc);
+                let reply = carry(alloc, &self.stage, &mut self.chain, &line, &mut events)?;
+                push_answer(out, &line, events.as_slice(), &reply)?;
                 Ok(Progress::Carried)
             }
         }
     }
+}
 
-    /// Carries out a line, behind which the script stands at the stage, and adds what it prints to the text.
-    fn carry(&mut self, alloc: Global, out: &mut String, line: &Line) -> Result<(), Memory>
-        requires fits { Fits self.old.session }
-        requires playable { IsPlayable line.now }
-        ensures carried { OnOk result
-            ((events : _) × (reply : _)
-            × Step (table_of (contents self.old.stage)) self.old.session line.now events reply self.new.session
-            × (string_bytes out.new ≡ string_bytes out.old ++ entry_text line.now events reply)) }
-        ensures stage { OnOk result (self.new.stage ≡ self.old.stage) }
-        ensures fits { OnOk result (Fits self.new.session) }
-    {
-        let answer = self.session.carry(table(&self.stage), line)?;
-        push_answer(out, line, answer.events.as_slice(), &answer.reply)?;
-        Ok(())
+/// Carries out a line, behind which the script stands at this stage, and logs its events in an empty log: `go` opens the chain
+/// of the tables, and the lines before it bring nothing about.
+fn carry(
+    alloc: Global,
+    stage: &ScriptStage,
+    chain: &mut Option<Chain>,
+    line: &Line,
+    log: &mut EventList,
+) -> Result<Reply, Memory>
+    requires can { CanCarry stage.now chain.old line.now }
+    requires empty { log.old ≡ [] }
+    ensures turns { IfOk result (λ reply. Turns (part_of line.now) stage.now
+        (chain_or stage.now chain.old) (turn_of line.now log.new reply)
+        (chain_or stage.now chain.new)) }
+    ensures runs { OnOk result (is_some chain.new ≡ is_past_go (part_after (part_of line.now) line.now)) }
+{
+    if let Some(chain) = chain {
+        return play(chain, line, log);
     }
+    if matches!(line, Line::Go) {
+        *chain = Some(open(alloc, stage)?);
+    }
+    Ok(Reply::Ok)
+}
+
+/// Carries out a line behind `go`, and logs its events in an empty log.
+fn play(chain: &mut Chain, line: &Line, log: &mut EventList) -> Result<Reply, Memory>
+    requires can { CanPlay chain.old line.now }
+    requires empty { log.old ≡ [] }
+    ensures { IfOk result
+        (λ reply. Behaves chain.old [] line.now log.new reply chain.new) }
+{
+    if is_end(line) {
+        return Ok(Reply::Ok);
+    }
+    let reply = chain.step(line, log)?;
+    Ok(reply)
+}
+
+fn is_end(line: &Line) -> bool
+    ensures { result ≡ is_end line.now }
+{
+    matches!(line, Line::End)
+}
+
+/// The chain that the tables of a stage open.
+fn open(alloc: Global, stage: &ScriptStage) -> Result<Chain, Memory>
+    requires { CanOpen (contents stage.now) }
+    ensures { IfOk result (λ chain. chain ≡ opened (contents stage.now)) }
+{
+    let tables = match stage.tables() {
+        Some(tables) => tables.copy(alloc)?,
+        None => Tables::new(alloc)?,
+    };
+    let chain = Chain::new(alloc, tables)?;
+    Ok(chain)
 }

@@ -1,5 +1,6 @@
 // Whole scripts and the traces that they give.
 mod acknowledged;
+mod bearers;
 mod endings;
 mod faults;
 mod limits;

@@ -18,7 +18,6 @@ set queue 5|later
 set queue 5 5|form
 set queue 0|range
 set queue 1025|range
-set report 0|later
 set report 5 5|form
 set report 65537|range
 set pollpdu 5 5|form
@@ -52,19 +51,15 @@ const BEHIND_SETTINGS: &str = "\
 set maxretx 3|twice
 set pollpdu 7|twice
 set pollbyte 0|twice
-bearer 1 1 18 12|later
-bearer 1 1 18 18|later
-bearer 1 1 12 13|range
+set queue 6|later
+bearer 1 1 18 13|range
 bearer 1 1 12 12\t|text";
 
 // Lines behind the tables of a bearer, before `go`.
 const BEHIND_A_BEARER: &str = "\
-remote 2|later
 remote 1|twice
 remote 2 2|form
 remote 65536|range
-bearer 1 2 12 12|later
-bearer 1 2 18 18|later
 bearer 1 1 12 18|twice
 bearer 2 1 12 12|unknown
 bearer 1 2 12 12 12|form
@@ -77,12 +72,9 @@ pc5 1 9 12|range
 map 1 1 1 1|unknown
 map 1 1 1 1 1|form
 map 1 1 9 1|range
-start 1 1 ul 5|later
-start 1 1 dl 4294967294|later
 start 1 2 ul 5|unknown
 start 1 1 ul 5 5|form
 start 1 1 ul 4294967295|range
-path 1 direct|later
 path 1 relay 255|later
 path 1 direct 5|form
 path 1 relay 256|range
@@ -90,16 +82,10 @@ go 1|form";
 
 // Lines behind `go`.
 const BEHIND_GO: &str = "\
-submit 1 1 dl 61|later
-submit 2 1 dl -|later
 submit 1 1 dl 61 61|form
 submit 1 1 dl 6|form
 submit 1 33 dl 61|range
 submit 0 1 ul 6|form
-grant p1.1 ul 5|later
-grant p1.8 dl 5|later
-grant u1 dl 5|later
-grant u1 ul 65535|later
 grant p1.1 ul 5 5|form
 grant p1.9 ul 5|range
 grant p1.1 ul 0|range
@@ -126,8 +112,6 @@ pull u1 u1|form
 pull u9|range
 burst|later
 burst 1|form
-report 1 1 ul|later
-report 2 1 dl|later
 report 1 1 ul 1|form
 report 1 33 ul|range
 plan 1 direct|later
