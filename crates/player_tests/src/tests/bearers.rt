@@ -91,12 +91,14 @@ grant d1.3 dl 100|idle
 deliver 10|  conf 1 3 ul 3|ok acks 2
 end|total 1 1 ul 1 1 0|total 1 1 dl 1 1 0|total 1 3 ul 3 3 3|total 1 3 dl 0 0 0|total 7 1 ul 1 1 0|total 7 1 dl 1 1 0|done";
 
-/// Remotes, and bearers of each.
+/// How many remotes the long session has.
 const REMOTES: u64 = 8;
+
+/// How many bearers each of them has.
 const BEARERS: u64 = 8;
 
-/// Adds rows for each of 64 bearers. In their text `R` and `D` stand for a remote and its bearer, and `#` for the ticket that the row's
-/// bearer has of those from a first one on.
+/// Adds rows for each bearer. In their text `R` and `D` stand for a remote and its bearer, and `#` for the bearer's ticket of
+/// those from a first one on.
 fn push_for_each(
     session: &mut Session,
     alloc: Global,
