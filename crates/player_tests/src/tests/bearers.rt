@@ -91,34 +91,41 @@ grant d1.3 dl 100|idle
 deliver 10|  conf 1 3 ul 3|ok acks 2
 end|total 1 1 ul 1 1 0|total 1 1 dl 1 1 0|total 1 3 ul 3 3 3|total 1 3 dl 0 0 0|total 7 1 ul 1 1 0|total 7 1 dl 1 1 0|done";
 
-/// How many remotes the long session has.
-const REMOTES: u64 = 8;
+/// How many remotes the long session has, and how many bearers each of them.
+const EIGHT: u32 = 8;
 
-/// How many bearers each of them has.
-const BEARERS: u64 = 8;
+/// The rows for a bearer. In their text `R` and `D` stand for its remote and for itself, and `#` for a ticket.
+fn rows_of(
+    alloc: Global,
+    rows: &str,
+    remote: u32,
+    drb: u32,
+    ticket: u64,
+) -> Result<String, AllocError> {
+    let mut text = String::new(alloc);
+    for letter in rows.chars() {
+        match letter {
+            'R' => write!(text, "{remote}")?,
+            'D' => write!(text, "{drb}")?,
+            '#' => write!(text, "{ticket}")?,
+            other => text.push(other)?,
+        }
+    }
+    Ok(text)
+}
 
-/// Adds rows for each bearer. In their text `R` and `D` stand for a remote and its bearer, and `#` for the bearer's ticket of
-/// those from a first one on.
+/// Adds rows for each bearer, with its ticket of those from a first one on.
 fn push_for_each(
     session: &mut Session,
     alloc: Global,
-    first: u64,
+    first: u32,
     rows: &str,
 ) -> Result<(), AllocError> {
-    for remote in 1..=REMOTES {
-        for drb in 1..=BEARERS {
-            let ticket = first + (remote - 1) * BEARERS + (drb - 1);
-            let mut text = String::new(alloc);
-            for letter in rows.chars() {
-                match letter {
-                    'R' => write!(text, "{remote}")?,
-                    'D' => write!(text, "{drb}")?,
-                    '#' => write!(text, "{ticket}")?,
-                    other => text.push(other)?,
-                }
-            }
-            session.push(text.as_str())?;
-        }
+    for place in 0..EIGHT * EIGHT {
+        let (remote, drb) = (place / EIGHT + 1, place % EIGHT + 1);
+        let ticket = u64::from(first) + u64::from(place);
+        let text = rows_of(alloc, rows, remote, drb, ticket)?;
+        session.push(text.as_str())?;
     }
     Ok(())
 }
@@ -142,7 +149,7 @@ fn sixty_four_bearers_to_their_end(rt: HostRuntime) -> Result<(), Fail> {
     let alloc = rt.alloc();
     let mut session = Session::new(alloc);
     session.push("relayscript 1")?;
-    for remote in 1..=REMOTES {
+    for remote in 1..=EIGHT {
         session.push(format!(in alloc; "remote {remote}")?.as_str())?;
     }
     push_for_each(&mut session, alloc, 0, "bearer R D 18 12")?;
