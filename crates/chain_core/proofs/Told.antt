@@ -8,6 +8,7 @@ use Rattle.link_base.specs.declared.names.Way.TheVariants.{Ul, Dl}
 use Rattle.bearer_map.specs.declared.rows.BearerRow.{BearerRow}
 use Rattle.node_model.specs.Names.{key_of}
 use Rattle.node_model.specs.Tables.{keys_of_row}
+use Rattle.chain_model.specs.Steps.{reporting}
 
 cons_append : {Y : Type 0} (e : Option Y) (xs ys : List Y) → cons_option e (xs ++ ys) ≡ cons_option e xs ++ ys
 cons_append None xs ys = refl
@@ -48,3 +49,9 @@ module _ {Y : Type 0} (f : Key → Option Y) where
 pub each_told : {Y : Type 0} (f : Key → Y) (ks : List Key) → filter_map (λ k. Some (f k)) ks ≡ map f ks
 each_told f [] = refl
 each_told f (k ∷ ks) = ap (λ ys. f k ∷ ys) (each_told f ks)
+
+-- where no report was given nothing is told
+pub none_reported : (given : List Key) → length given ≡ 0 → (ks : List Key) → filter_map (reporting given) ks ≡ []
+none_reported [] none [] = refl
+none_reported [] none (k ∷ ks) = none_reported [] none ks
+none_reported (g ∷ given) none ks = absurd (omega (arith, none))

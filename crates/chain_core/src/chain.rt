@@ -371,6 +371,9 @@ fn tell_reports(bearers: &[BearerRow], given: &KeyList, log: &mut EventList) -> 
     ensures { OnOk result (log.new ≡ log.old
         ++ filter_map (reporting given.now) (flat_map keys_of_row bearers.now)) }
 {
+    if given.is_empty() {
+        return Ok(());
+    }
     for row in bearers {
         tell_report(key_of(row.remote, row.drb, Way::Ul), given, log)?;
         tell_report(key_of(row.remote, row.drb, Way::Dl), given, log)?;

@@ -8,7 +8,9 @@ use Rattle.std.specs.Ordering.{nat_cmp, ordering_index}
 use Rattle.std.proofs.lemmas.Cmp.{ranked}
 use Rattle.std.proofs.lemmas.Bool.{cases_lt, eqb-true, false≢true, false_from_ne_true}
 use Rattle.std.proofs.lemmas.Bool.Decides.{nat_tests}
+use Rattle.link_base.specs.declared.names.Drb.{Drb}
 use Rattle.link_base.specs.declared.names.Key.{Key}
+use Rattle.link_base.specs.declared.names.Remote.{Remote}
 use Rattle.link_base.specs.declared.names.Way.{Way}
 use Rattle.link_base.specs.declared.names.Way.TheVariants.{Ul, Dl}
 use Rattle.bearer_map.specs.Contents.{pair}
@@ -16,6 +18,7 @@ use Rattle.bearer_map.specs.Order.{IsAscending}
 use Rattle.node_model.specs.Names.{key_of, is_key, is_way}
 use Rattle.node_bearers.specs.declared.bearer.Bearer.{Bearer}
 use Rattle.node_bearers.specs.Bearer.{rank, bearer_key}
+use Rattle.node_bearers.specs.Calls.{is_of_bearer}
 use Rattle.node_bearers.specs.Order.{IsSmall, IsInOrder, IsAt, IsOf, HasRank, HasNone, HasNoRank}
 use Rattle.node_bearers.proofs.Found.{all_map, both_true}
 
@@ -96,3 +99,34 @@ other_way way key rows other = from_places (λ (b : Bearer). is_key key (bearer_
     false_from_ne_true (is_key key (bearer_key way b)) (λ is.
     let names = both_true (key.remote.0 == b.remote.0) ((key.drb.0 == b.drb.0) && is_way key.way way) is in
     false≢true (sym other ∙ (both_true (key.drb.0 == b.drb.0) (is_way key.way way) names.1).1)))
+
+-- bearers of one rank stand at one place
+one_place : (rows : List Bearer) (i j : ℕ) (d : Bearer) → IsAscending rank rows → i < length rows → j < length rows → rank (get_or rows i d) ≡ rank (get_or rows j d) → i ≡ j
+one_place [] i j d up lt also same = absurd (omega arith)
+one_place (r ∷ rows) zero zero d up lt also same = refl
+one_place (r ∷ rows) zero (suc j) d up lt also same =
+    let above : rank r < rank (get_or rows j d) = at_place (λ x. rank r < rank x) rows j d up.0 (omega arith) in absurd (omega (arith, above, same))
+one_place (r ∷ rows) (suc i) zero d up lt also same =
+    let above : rank r < rank (get_or rows i d) = at_place (λ x. rank r < rank x) rows i d up.0 (omega arith) in absurd (omega (arith, above, same))
+one_place (r ∷ rows) (suc i) (suc j) d up lt also same = ap suc (one_place rows i j d up.1 (omega arith) (omega arith) same)
+
+-- where a key of a bearer stands, the bearer is found by its rank
+module _ (rows : List Bearer) (order : IsInOrder rows) (remote : Remote) (drb : Drb) where
+  pub its_place : (found : Option ℕ) → IfSome found (IsAt (HasRank (pair remote.0 drb.0)) rows) → IfNone found (HasNoRank (pair remote.0 drb.0) rows) → (way : Way) (key : Key) (at : ℕ) → at < length rows
+      → ((d : Bearer) → key ≡ bearer_key way (get_or rows at d)) → is_of_bearer remote drb key ≡ true → found ≡ Some at
+  its_place found some none way key at lt is its =
+      let b = first rows at lt in
+      let names = both_true (remote.0 == key.remote.0) (drb.0 == key.drb.0) its in
+      let one = eqb-true remote.0 key.remote.0 names.0 in
+      let other = eqb-true drb.0 key.drb.0 names.1 in
+      let remote_is = ap (λ (k : Key). k.remote.0) (is b) in
+      let drb_is = ap (λ (k : Key). k.drb.0) (is b) in
+      go found some none b (omega (arith, one, other, remote_is, drb_is))
+    where
+      first : (rs : List Bearer) (i : ℕ) → i < length rs → Bearer
+      first [] i l = absurd (omega arith)
+      first (r ∷ rs) i l = r
+
+      go : (f : Option ℕ) → IfSome f (IsAt (HasRank (pair remote.0 drb.0)) rows) → IfNone f (HasNoRank (pair remote.0 drb.0) rows) → (b : Bearer) → rank (get_or rows at b) ≡ pair remote.0 drb.0 → f ≡ Some at
+      go None here absent b ranks = absurd (at_place (λ (x : Bearer). rank x ≢ pair remote.0 drb.0) rows at b absent lt ranks)
+      go (Some place) here absent b ranks = ap (λ (i : ℕ). Some i) (one_place rows place at b order.ascend here.0 lt (here.1 b ∙ sym ranks))

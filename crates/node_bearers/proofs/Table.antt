@@ -1,6 +1,6 @@
 -- The bearers of an end by place and by key.
 use Rattle.std.proofs.Common.{◌≡◌, ◌≢◌, ◌⊎◌, inl, inr, ℕ, zero, suc, ◌+◌, ◌*◌, ◌<◌, Bool, true, false, List, [], ◌∷◌, length, map, get_or, set, Option, Some, None, refl, sym, ◌∙◌, ap, subst, eq-eqb, arith}
-use Rattle.std.specs.Prelude.{find, slice_get, ◌==◌, ◌&&◌, unwrap_or}
+use Rattle.std.specs.Prelude.{find, slice_get, IfSome, ◌==◌, ◌&&◌, unwrap_or}
 use Rattle.std.specs.List.{AllByRecursion}
 use Rattle.std.proofs.lemmas.Bool.{eqb-true, false_from_ne_true}
 use Rattle.std.proofs.lemmas.List.{length-map}
@@ -123,6 +123,10 @@ module _ {A B : Type 0} (see : A → B) (name : B → Key) where
 -- as many ends as bearers
 pub within : {A B : Type 0} (see : A → B) (xs : List A) (place : ℕ) → place < length (map see xs) → place < length xs
 within see xs place lt = omega (arith, length-map xs see)
+
+pub place_within : {B : Type 0} (P : Bearer → Type 0) (see : Bearer → B) (xs : List Bearer) (found : Option ℕ) → IfSome found (IsAt P xs) → IfSome found (λ place. place < length (map see xs))
+place_within P see xs None at = tt
+place_within P see xs (Some place) at = omega (arith, at.0, length-map xs see)
 
 -- a key that is none's
 module _ (sends : Way) (key : Key) (rows : List Bearer) where

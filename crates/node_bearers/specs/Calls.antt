@@ -1,13 +1,15 @@
 -- What the calls of an end's bearers do, over a node of which only the ends of bearers are known.
-use Rattle.std.specs.Prelude.{◌≡◌, ℕ, ◌<◌, Bool, false, not, ◌&&◌, ◌||◌, List, map, slice_get, fold, Option, Some, All}
+use Rattle.std.specs.Prelude.{◌≡◌, ℕ, ◌<◌, ◌==◌, Bool, false, not, ◌&&◌, ◌||◌, List, map, slice_get, fold, Option, Some, All}
 use Rattle.link_base.specs.declared.limits.TheConstants.{COUNT_END}
+use Rattle.link_base.specs.declared.names.Drb.{Drb}
 use Rattle.link_base.specs.declared.names.Key.{Key}
+use Rattle.link_base.specs.declared.names.Remote.{Remote}
 use Rattle.link_base.specs.declared.rlc_words.Tag.{Tag}
 use Rattle.bearer_map.specs.declared.rows.BearerRow.{BearerRow}
 use Rattle.bearer_map.specs.Contents.{Contents}
 use Rattle.pdcp_model.specs.Sender.{Sender}
 use Rattle.pdcp_tx.specs.Calls.{Accepts, GivesNext}
-use Rattle.node_model.specs.Names.{AtGnb}
+use Rattle.node_model.specs.Names.{AtGnb, is_remote}
 use Rattle.node_model.specs.State.{Node, Incoming, no_node, outgoing, set_outgoing}
 use Rattle.node_model.specs.Ends.{confirm_count}
 use Rattle.node_model.specs.Feeding.{in_key, out_key, is_enough}
@@ -40,6 +42,10 @@ is_wanted every on_relay i = not i.held_back && (i.wanted || is_enough every on_
 -- a status report about what is received was given to RLC
 abbrev pub gave_report : Incoming → Incoming
 gave_report i = record i { wanted = false; reported = i.receiver.handed }
+
+-- the key is one of the two of a bearer
+abbrev pub is_of_bearer : Remote → Drb → Key → Bool
+is_of_bearer remote drb key = is_remote remote key.remote && (drb.0 == key.drb.0)
 
 -- the key that is sent at a place
 abbrev pub Sends : Node → ℕ → Key → Type 0

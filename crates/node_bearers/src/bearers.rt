@@ -1,5 +1,5 @@
 // All bearers at an end.
-ghost use Rattle.std.specs.Prelude.{◌≡◌, ◌<◌, ◌==◌, Some, length, map, filter, true, false, All, IfOk, IfErr, OnErr, IsSome, IfSome, IfNone};
+ghost use Rattle.std.specs.Prelude.{◌≡◌, ℕ, ◌<◌, ◌==◌, Some, length, map, filter, true, false, All, IfOk, IfErr, OnErr, IsSome, IfSome, IfNone};
 ghost use Rattle.bearer_map.specs.declared.rows.RemoteRow.{RemoteRow};
 ghost use Rattle.bearer_map.specs.Contents.{bearer_rank};
 ghost use Rattle.bearer_map.specs.Order.{IsAscending};
@@ -14,12 +14,12 @@ ghost use Rattle.node_model.specs.State.{outgoing, incoming, outgoing_at, incomi
 ghost use Rattle.node_model.specs.Ends.{HearsPdcp, confirm_count};
 ghost use Rattle.node_model.specs.Feeding.{in_key, out_key};
 ghost use Rattle.node_model.specs.Opening.{new_remote, new_gnb};
-ghost use Rattle.node_bearers.specs.Calls.{ends_alone, HasCounts, HaveCounts, Submits, confirm_each, is_wanted, Sends, Receives, Gives, gave_report};
+ghost use Rattle.node_bearers.specs.Calls.{ends_alone, HasCounts, HaveCounts, Submits, confirm_each, is_wanted, is_of_bearer, Sends, Receives, Gives, gave_report};
 
 use crate::bearer::Bearer;
-use crate::search::place_of;
+use crate::search::{place_of, place_with, rank_of};
 use bearer_map::{BearerRow, Tables};
-use link_base::{Bytes, Key, Memory, Remote, Tag, Way};
+use link_base::{Bytes, Drb, Key, Memory, Remote, Tag, Way};
 use node_model::NodeHeard;
 use pdcp_tx::SubmitFault;
 use std::alloc::Global;
@@ -249,6 +249,17 @@ impl Bearers {
         ensures { result ≡ (length self.now.outgoing == 0) }
     {
         self.rows.is_empty()
+    }
+
+    /// The place of a bearer, found in logarithmic time. None where it isn't one of these.
+    pub fn place(&self, remote: Remote, drb: Drb) -> Option<usize>
+        ensures within { IfSome result (λ place. place < length self.now.outgoing) }
+        ensures sent { (at : ℕ) (key : Key) → Sends self.now at key
+            → is_of_bearer remote drb key ≡ true → result ≡ Some at }
+        ensures received { (at : ℕ) (key : Key) → Receives self.now at key
+            → is_of_bearer remote drb key ≡ true → result ≡ Some at }
+    {
+        place_with(&self.rows, rank_of(remote, drb))
     }
 
     /// The key that is sent at a place. What is received there is the bearer's other way.

@@ -19,8 +19,8 @@ pub(crate) fn place_of(rows: &[Bearer], way: Way, key: Key) -> Option<usize>
     place_with(rows, rank_of(key.remote, key.drb))
 }
 
-// The place of the bearer of this rank.
-fn place_with(rows: &[Bearer], of: u32) -> Option<usize>
+/// The place of the bearer of this rank.
+pub(crate) fn place_with(rows: &[Bearer], of: u32) -> Option<usize>
     requires { IsInOrder rows.now }
     ensures some { IfSome result (IsAt (HasRank of) rows.now) }
     ensures none { IfNone result (HasNoRank of rows.now) }
@@ -30,7 +30,7 @@ fn place_with(rows: &[Bearer], of: u32) -> Option<usize>
 }
 
 /// Where a bearer stands among all: by remote, then by its identity.
-fn rank_of(remote: Remote, drb: Drb) -> u32
+pub(crate) fn rank_of(remote: Remote, drb: Drb) -> u32
     ensures value { result ≡ pair remote.0 drb.0 }
     ensures octet { drb.0 < 256 }
 {

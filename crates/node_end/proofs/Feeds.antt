@@ -147,6 +147,7 @@ module _ (key : Key) (init : Node) (name : NodeName) (ports : List PortSide) (en
             name = going.name;
             keys = record {
               name = going.name;
+              attached = going.keys.attached;
               sent = ap (λ (m : Node). map out_key m.outgoing) turned ∙ kept ∙ going.keys.sent;
               received = same_keys ∙ going.keys.received;
             };
@@ -234,7 +235,7 @@ same_long old new keys =
     (sym (length-map new.outgoing out_key) ∙ ap length keys.sent ∙ length-map old.outgoing out_key, sym (length-map new.incoming in_key) ∙ ap length keys.received ∙ length-map old.incoming in_key)
 
 pub keeps_both : (old mid new : Node) → KeepsKeys old mid → KeepsKeys mid new → KeepsKeys old new
-keeps_both old mid new first rest = record { name = rest.name ∙ first.name; sent = rest.sent ∙ first.sent; received = rest.received ∙ first.received }
+keeps_both old mid new first rest = record { name = rest.name ∙ first.name; attached = rest.attached ∙ first.attached; sent = rest.sent ∙ first.sent; received = rest.received ∙ first.received }
 
 -- the reports of all places are fed, place by place
 module _ (t : Contents) (old cur : Node) (place : ℕ) (lt : place < length old.incoming) (given : List Key) (fed : FeedsReports t old (take place (map in_key old.incoming)) given cur) (keys : KeepsKeys old cur) where

@@ -22,9 +22,10 @@ HasNumbersLeft s = (entity : Entity) → s.entity ≡ Some entity → tx_next en
 abbrev pub HaveNumbersLeft : Node → Type 0
 HaveNumbersLeft n = AllByRecursion HasNumbersLeft n.ports
 
--- the node is the same one, with the same bearers
+-- the node is the same one, with the same identities and bearers
 pub record KeepsKeys (old new : Node) : Type 0 where
   pub name : new.name ≡ old.name
+  pub attached : new.attached ≡ old.attached
   pub sent : map out_key new.outgoing ≡ map out_key old.outgoing
   pub received : map in_key new.incoming ≡ map in_key old.incoming
 

@@ -2,3 +2,4 @@ pub mod Direct
 pub mod Node
 pub mod Hearing
 pub mod Feeding
+pub mod Fed

@@ -5,6 +5,7 @@ use Rattle.node_model.specs.Names.{NodeName, AtRemote, AtGnb}
 use Rattle.node_model.specs.State.{PortSide, Node}
 use Rattle.node_end.specs.declared.end.End.TheInside.{Inside}
 use Rattle.node_end.specs.Direct.{IsDirect}
+use Rattle.node_end.specs.Fed.{OthersAreFed}
 
 -- a node with the ends of bearers of another
 abbrev pub with_ends : Node → Node → Node
@@ -23,6 +24,7 @@ end_with name ports ends = record { name = name; ports = ports; attached = []; o
 abbrev pub node_of : Inside → Node
 node_of a = end_with (name_of a.remote) a.ports a.bearers
 
--- it has direct ports alone
-abbrev pub IsEnd : Inside → Type 0
-IsEnd a = IsDirect (node_of a)
+-- it has direct ports alone, and of all bearers but those to be fed it has nothing to give
+pub record IsEnd (a : Inside) : Type 0 where
+  pub direct : IsDirect (node_of a)
+  pub fed : OthersAreFed a.to_feed (node_of a)

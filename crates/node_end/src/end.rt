@@ -15,6 +15,8 @@ ghost use Rattle.node_bearers.specs.Calls.{HaveCounts, Submits};
 ghost use Rattle.node_end.specs.Direct.{BeginsDirect, AreDirect, side_of};
 ghost use Rattle.node_end.specs.Node.{name_of};
 
+use crate::feeding::direct_port;
+use crate::to_feed::ToFeed;
 use bearer_map::{RemoteRow, Tables};
 use link_base::{Expired, ItemList, Key, Memory, PortName, Remote, Side, Timer};
 use node_bearers::Bearers;
@@ -38,6 +40,7 @@ pub struct End {
     pub(crate) remote: Option<Remote>,
     pub(crate) ports: Ports,
     pub(crate) bearers: Bearers,
+    pub(crate) to_feed: ToFeed,
 }
 
 impl Model for End {
@@ -67,6 +70,7 @@ impl End {
             remote: Some(row.remote),
             ports,
             bearers,
+            to_feed: ToFeed::Everything,
         })
     }
 
@@ -83,6 +87,7 @@ impl End {
             remote: None,
             ports,
             bearers,
+            to_feed: ToFeed::Everything,
         })
     }
 
@@ -116,6 +121,7 @@ impl End {
         ensures name { self.new.name ≡ self.old.name }
     {
         let count = self.bearers.submit(key, sdu)?;
+        self.to_feed = self.to_feed.with_port(direct_port(key));
         Ok(count)
     }
 
@@ -132,6 +138,7 @@ impl End {
         ensures memory { OnErr result
             (IsThere (λ e. IsToSend e.tx e.rx octets) (entity_at self.old port)) }
     {
+        self.to_feed = self.to_feed.with_port(port);
         let answer = self.ports.grant(port, octets)?;
         Ok(answer)
     }
@@ -142,6 +149,7 @@ impl End {
         ensures expires { ExpiresPort self.old port timer result self.new }
         ensures name { self.new.name ≡ self.old.name }
     {
+        self.to_feed = self.to_feed.with_port(port);
         self.ports.expire(port, timer)
     }
 
@@ -151,6 +159,7 @@ impl End {
             (record (incoming self.old key) { wanted = true }) }
         ensures name { self.new.name ≡ self.old.name }
     {
+        self.to_feed = self.to_feed.with_port(direct_port(key));
         self.bearers.want_report(key);
     }
 

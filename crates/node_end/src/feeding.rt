@@ -1,5 +1,5 @@
 // An end gives SDUs to its RLC transmitters.
-ghost use Rattle.std.specs.Prelude.{◌≡◌, ◌<◌, ◌++◌, length, All, IfOk, OnOk, OnErr};
+ghost use Rattle.std.specs.Prelude.{◌≡◌, ◌<◌, ◌≤◌, ◌++◌, length, All, IfOk, OnOk, OnErr};
 ghost use Rattle.link_base.specs.declared.names.Key.{Key};
 ghost use Rattle.link_base.specs.declared.names.PortName.TheVariants.{Direct};
 ghost use Rattle.bearer_map.specs.Contents.{Contents};
@@ -7,15 +7,18 @@ ghost use Rattle.node_model.specs.Names.{back};
 ghost use Rattle.node_model.specs.State.{incoming};
 ghost use Rattle.node_model.specs.Feeding.{Feeds, FeedsData};
 ghost use Rattle.node_bearers.specs.Calls.{Sends, Receives};
+ghost use Rattle.node_end.specs.Fed.{IsKeyFed, AreFedOutside};
 ghost use Rattle.node_end.specs.Feeding.{HasNumbers, HaveNumbersLeft, KeepsKeys, FeedsReportOf, IsToReport, StopsGiving, StopsFeeding};
 
+use crate::to_feed::ToFeed;
 use crate::{End, KeyList};
 use link_base::{Key, Memory, PortName, Tag, Way};
 
 impl End {
     /// Gives its transmitters what they have room for: first the status reports that are wanted, then data PDUs, both in the
     /// order of keys (TS 38.323 clauses 5.2.1 and 5.4.1). It answers the keys that the reports are about. It needs TX_Next below
-    /// 2^62 - 2^40 of each transmitter. Where there is nothing to give it reads a few fields of each bearer.
+    /// 2^62 - 2^40 of each transmitter. Where calls have spoken of one bearer at most since it last came to its end, it looks at
+    /// no other, and finds that one in logarithmic time.
     ///
     /// An `Err` is want of memory, and comes only where there is a PDU to give. What was given before is given then, and of a
     /// data PDU the SDU may have had its turn.
@@ -25,11 +28,48 @@ impl End {
         ensures name { self.new.name ≡ self.old.name }
         ensures err { (t : Contents) → OnErr result (StopsFeeding t self.old self.new) }
     {
+        let (first, end) = self.places_to_feed();
+        self.to_feed = ToFeed::Everything;
+        let given = self.feed_places(first, end)?;
+        self.to_feed = ToFeed::Nothing;
+        Ok(given)
+    }
+
+    // The first place of the bearers to be fed, and the one behind the last.
+    fn places_to_feed(&self) -> (usize, usize)
+        ensures order { result.0 ≤ result.1 }
+        ensures sent { result.1 ≤ length self.now.outgoing }
+        ensures received { result.1 ≤ length self.now.incoming }
+        ensures others { AreFedOutside self.now result.0 result.1 }
+    {
+        let count = self.bearers.len();
+        match self.to_feed {
+            ToFeed::Nothing => (0, 0),
+            ToFeed::Bearer(remote, drb) => match self.bearers.place(remote, drb) {
+                None => (0, 0),
+                Some(place) => (place, place + 1),
+            },
+            ToFeed::Everything => (0, count),
+        }
+    }
+
+    // Feeds the bearers from a place on up to another, where there is nothing to give of the others.
+    fn feed_places(&mut self, first: usize, end: usize) -> Result<KeyList, Memory>
+        requires order { first ≤ end }
+        requires sent { end ≤ length self.old.outgoing }
+        requires received { end ≤ length self.old.incoming }
+        requires others { AreFedOutside self.old first end }
+        requires numbers { All HasNumbers self.old.ports }
+        ensures ok { (t : Contents) → IfOk result (λ given. Feeds t self.old given self.new) }
+        ensures fed { OnOk result ((key : Key) → IsKeyFed self.new key) }
+        ensures name { self.new.name ≡ self.old.name }
+        ensures err { (t : Contents) → OnErr result (StopsFeeding t self.old self.new) }
+    {
         let mut given = KeyList::new(self.alloc);
-        for place in 0..self.bearers.len() {
+        for place in first..end {
             self.feed_report(place, &mut given)?;
         }
-        for place in 0..self.bearers.len() {
+        for place in first..end {
             self.feed_data(place)?;
         }
         Ok(given)
@@ -111,8 +151,8 @@ impl End {
     }
 }
 
-// The port of a bearer's direct path.
-fn direct_port(key: Key) -> PortName
+/// The port of a bearer's direct path.
+pub(crate) fn direct_port(key: Key) -> PortName
     ensures { result ≡ Direct key.remote key.drb }
 {
     PortName::Direct(key.remote, key.drb)

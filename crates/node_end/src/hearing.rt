@@ -32,6 +32,7 @@ impl End {
         if let Some(refusal) = self.ports.refusal(pdu) {
             return Ok(refusal);
         }
+        self.to_feed = self.to_feed.with_port(pdu.port);
         let hop = self.ports.hear_hop(pdu.port, pdu.bytes.as_slice())?;
         let answer = self.follow(pdu.port, hop)?;
         Ok(answer)
@@ -49,6 +50,7 @@ impl End {
         match hop {
             HopHeard::Amd(Heard::Complete(_, sdu)) => {
                 let key = received_over(self.side(), port);
+                self.to_feed = self.to_feed.with_port(port);
                 let answer = self.bearers.hear(key, sdu.as_slice())?;
                 Ok(answer)
             }

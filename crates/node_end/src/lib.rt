@@ -5,6 +5,7 @@
 mod end;
 mod feeding;
 mod hearing;
+mod to_feed;
 
 pub use end::{End, KeyList};
 pub use node_model::{NodeHeard, PortGrant};
