@@ -1,0 +1,13 @@
+// The laws of what a run sends.
+ghost use Rattle.carried_law.specs.Pieces.{SentPdusArePieces};
+
+use crate::foundations::laws_of_hops;
+
+/// A law: in each run, whatever its lines, there is one SDU for each number of a port in a way and an epoch, and each data PDU
+/// that is sent under this number is read by the format with the port's SNs, has the number's SN, and is a piece of that SDU (TS
+/// 38.322 clauses 5.2.3.1 and 6.2.2.4).
+pub fn sent_pdus_are_pieces()
+    ensures { SentPdusArePieces }
+{
+    laws_of_hops();
+}

@@ -1,0 +1,10 @@
+//! The laws of what a run sends: its data PDUs are pieces of SDUs.
+//!
+//! A law has no code. It is the contract of a function that does nothing, over the definitions of chain_model; specs/ has its
+//! statement. What a body calls are the laws on which its own law stands.
+#![tactic(auto)]
+
+mod foundations;
+mod laws;
+
+pub use laws::sent_pdus_are_pieces;
