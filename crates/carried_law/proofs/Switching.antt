@@ -77,9 +77,9 @@ applies_side old mid remote kind own reply a side q e is = elim (cases_node x y)
         (ap (λ (z : NodeName). find (λ (n : Node). is_node z n.name) old.nodes) name ∙ none))) ∙ here)
     | inl there ↦ elim (applied_side (settings old.tables) remote a.plan.goal a.plan.epoch (node_at old y) q e
         (ap (λ (n : Node). entity_at n q) (sym (ap (node_at (set_node old m)) this ∙ node_set old y m name there.0 there.1)) ∙ here)) [
-      | inl was ↦ inl (ap (λ (z : NodeName). entity_at (node_at old z) q) this ∙ was)
-      | inr new ↦ inr (new.0, this, new.1)
-    ]
+          | inl was ↦ inl (ap (λ (z : NodeName). entity_at (node_at old z) q) this ∙ was)
+          | inr new ↦ inr (new.0, this, new.1)
+        ]
   ]
 ]
   where
