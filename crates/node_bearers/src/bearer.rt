@@ -2,6 +2,7 @@
 ghost use Rattle.std.specs.Prelude.{◌≡◌, ◌<◌, IfOk, OnErr};
 ghost use Rattle.link_base.specs.declared.limits.TheConstants.{COUNT_END};
 ghost use Rattle.link_base.specs.declared.names.Way.{Way};
+ghost use Rattle.node_model.specs.Names.{back};
 ghost use Rattle.node_model.specs.Ends.{pdcp_discard, heard_as};
 ghost use Rattle.node_model.specs.Feeding.{is_enough};
 ghost use Rattle.node_bearers.specs.Calls.{is_wanted};
@@ -69,7 +70,7 @@ impl Bearer {
                 Ok(heard_as(key, heard))
             }
             Ok(PdcpView::Report { fmc, map }) => match self.tx.hear_report(fmc, map) {
-                Ok(()) => Ok(NodeHeard::Report),
+                Ok(()) => Ok(NodeHeard::Report(back(key))),
                 Err(_) => Ok(NodeHeard::Discard(Discard::ReportBeyond)),
             },
             Err(fault) => Ok(NodeHeard::Discard(discard_of(fault))),
@@ -98,6 +99,17 @@ impl Bearer {
     {
         every > 0 && on_relay && self.rx.handed().saturating_sub(self.reported) >= u64::from(every)
     }
+}
+
+/// The key of a bearer's other way.
+pub fn back(key: Key) -> Key
+    ensures { result ≡ back key }
+{
+    let way = match key.way {
+        Way::Ul => Way::Dl,
+        Way::Dl => Way::Ul,
+    };
+    Key { way, ..key }
 }
 
 /// The answer of a node to a PDU with which the receiver of a key answers this.

@@ -6,4 +6,5 @@ mod bearer;
 mod bearers;
 mod search;
 
+pub use bearer::back;
 pub use bearers::Bearers;

@@ -12,7 +12,8 @@ ghost use Rattle.node_end.specs.Feeding.{HasNumbers, HaveNumbersLeft, KeepsKeys,
 
 use crate::to_feed::ToFeed;
 use crate::{End, KeyList};
-use link_base::{Key, Memory, PortName, Tag, Way};
+use link_base::{Key, Memory, PortName, Tag};
+use node_bearers::back;
 
 impl End {
     /// Gives its transmitters what they have room for: first the status reports that are wanted, then data PDUs, both in the
@@ -156,15 +157,4 @@ pub(crate) fn direct_port(key: Key) -> PortName
     ensures { result ≡ Direct key.remote key.drb }
 {
     PortName::Direct(key.remote, key.drb)
-}
-
-// The other way of a bearer.
-fn back(key: Key) -> Key
-    ensures { result ≡ back key }
-{
-    let way = match key.way {
-        Way::Ul => Way::Dl,
-        Way::Dl => Way::Ul,
-    };
-    Key { way, ..key }
 }

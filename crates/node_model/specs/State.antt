@@ -7,6 +7,7 @@ use Rattle.link_base.specs.declared.names.LocalId.{LocalId}
 use Rattle.link_base.specs.declared.names.Key.{Key}
 use Rattle.link_base.specs.declared.names.PortName.{PortName}
 use Rattle.bearer_map.specs.declared.ids.Attachment.{Attachment}
+use Rattle.bearer_map.specs.Contents.{Contents}
 use Rattle.rlc_model.specs.Sides.{Entity}
 use Rattle.pdcp_model.specs.Sender.{Sender, new_sender}
 use Rattle.pdcp_model.specs.Receiver.{Receiver, new_receiver}
@@ -43,6 +44,11 @@ pub record Node : Type 0 where
   pub attached : List Attachment
   pub outgoing : List Outgoing
   pub incoming : List Incoming
+
+-- a node, and the tables of its session, of which it keeps a copy to find routes
+pub record TabledNode : Type 0 where
+  pub tables : Contents
+  pub node : Node
 
 -- a side of a port at a node, where the node has it
 abbrev pub side_at : Node → PortName → Option PortSide

@@ -23,8 +23,8 @@ pub enum NodeHeard {
     Twice,
     /// It completed an SDU with an SN that stands for no COUNT.
     NoCount,
-    /// It completed a status report, which its bearer's sender took.
-    Report,
+    /// It completed a status report about this key, which the key's sender took.
+    Report(Key),
     /// It completed an SDU that goes no further.
     Discard(Discard),
     /// It completed no SDU: this is the answer of the port's entity. It is never `Amd` with `Complete`.
