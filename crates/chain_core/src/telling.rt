@@ -103,7 +103,7 @@ pub(crate) fn tell_heard(
         NodeHeard::Old => Ok(Reply::OkOld),
         NodeHeard::Twice => Ok(Reply::OkTwice),
         NodeHeard::NoCount => Ok(Reply::OkNoCount),
-        NodeHeard::Report(_) => Ok(Reply::OkReport),
+        NodeHeard::Report { .. } => Ok(Reply::OkReport),
         NodeHeard::Discard(name) => Ok(Reply::Discard(name)),
         NodeHeard::Hop(heard) => {
             let reply = tell_hop(log, port, way, heard)?;

@@ -24,7 +24,7 @@ use Rattle.rlc_model.specs.Rx.{Rx, Hears}
 use Rattle.rlc_model.specs.Sides.{Entity, sender_of, hearer_of, way_from}
 use Rattle.rlc_model.specs.Hop.{on_air, sent_from, GrantsHop, HearsHop, ExpiresHop}
 use Rattle.pdcp_model.specs.declared.answers.PdcpHeard.{PdcpHeard}
-use Rattle.pdcp_model.specs.Sender.{Sender, tx_next, hears_report, IsBeyond}
+use Rattle.pdcp_model.specs.Sender.{Sender, confirmed, tx_next, hears_report, IsBeyond}
 use Rattle.pdcp_model.specs.Receiver.{Receiver, rx_deliv, IsReport, Hears as HearsCount}
 use Rattle.script_text.specs.declared.line.Line.{Line}
 use Rattle.script_text.specs.declared.line.Line.TheVariants.{Grant, Deliver, Expire, Push, Pull}
@@ -224,7 +224,7 @@ no_bit n e = none (sym (ap (λ (x : ℕ). x % 2) (zero-div (2 ^ (7 - (n - 1) % 8
 
 -- a status report without a bitmap comes, whose FMC is at most TX_NEXT of the other way's sender
 pub report_comes : (n : Node) (key : Key) (fmc : ℕ) → fmc ≤ tx_next (outgoing n (back key)).sender
-    → HearsPdcp n key (0 ∷ 0 ∷ 0 ∷ 0 ∷ fmc ∷ []) answers.Report (set_outgoing n (record (outgoing n (back key)) { sender = hears_report (outgoing n (back key)).sender fmc [] }))
+    → HearsPdcp n key (0 ∷ 0 ∷ 0 ∷ 0 ∷ fmc ∷ []) (answers.Report (back key) (confirmed (outgoing n (back key)).sender)) (set_outgoing n (record (outgoing n (back key)) { sender = hears_report (outgoing n (back key)).sender fmc [] }))
 report_comes n key fmc within = report fmc [] ((refl, refl), omega arith, refl, omega arith) (inl (not_beyond (outgoing n (back key)).sender within, refl, refl))
   where
     not_beyond : (s : Sender) → fmc ≤ tx_next s → IsBeyond s fmc [] → ⊥

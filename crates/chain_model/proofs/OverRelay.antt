@@ -261,7 +261,7 @@ grants_back_pc5 = rests (chain s14) (chain s15) []
 delivers_last : Step (chain s15) (Deliver 6) (Conf key 1 ∷ []) OkReport (chain s16)
 delivers_last = rests (chain s15) (chain s16) []
     (delivers_sdu (chain s15) 6 (data_pdu_on pc5 Dl srap_report) s15.remote_pc5 (entity 0 (sent tag srap_sdu) no_rx) heard true srap_report
-    (OkOf (ToPdcp (back key) report_of)) answers.Report (remote_of s16) [] OkReport
+    (OkOf (ToPdcp (back key) report_of)) (answers.Report key 0) (remote_of s16) [] OkReport
     refl refl refl refl refl refl (omega arith) (omega arith) (omega arith) (hears_first srap_report (omega arith))
     (inl (srap 0 5 report_of, spells report_of (omega arith), (record { 0 = 5 }, refl, ((refl, row, maps, refl, refl), refl))))
     (report_comes (record (remote_of s16) { outgoing = record { key = key; sender = s15.remote_sender } ∷ [] }) (back key) 1 (omega arith)) (refl, refl) refl) refl refl

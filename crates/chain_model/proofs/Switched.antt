@@ -127,7 +127,7 @@ grants_report = rests (chain p4) (chain p5) []
 delivers_report : Step (chain p5) (Deliver 2) [] OkReport (chain p6)
 delivers_report = gives (chain p5) (chain m6) [] [] (chain p6).nodes
     (delivers_sdu (chain p5) 2 on_air p5.remote_direct (entity 1 (waiting (report_tag (back key)) report_of) no_rx) heard true report_of
-    (OkOf (ToPdcp (back key) report_of)) answers.Report (remote_of m6) [] OkReport
+    (OkOf (ToPdcp (back key) report_of)) (answers.Report key 0) (remote_of m6) [] OkReport
     refl refl refl refl refl refl (omega arith) (omega arith) (omega arith) (hears_first report_of (omega arith)) refl
     (report_comes (record (remote_of m6) { outgoing = record { key = key; sender = p5.remote_sender } ∷ [] }) (back key) 0 (omega arith)) (refl, refl) refl)
     (remote_feeds m6 p6 []

@@ -64,7 +64,7 @@ TellsHeard port way answers.Waiting events reply = (events ≡ []) × (reply ≡
 TellsHeard port way answers.Old events reply = (events ≡ []) × (reply ≡ OkOld)
 TellsHeard port way answers.Twice events reply = (events ≡ []) × (reply ≡ OkTwice)
 TellsHeard port way answers.NoCount events reply = (events ≡ []) × (reply ≡ OkNoCount)
-TellsHeard port way (answers.Report key) events reply = (events ≡ []) × (reply ≡ OkReport)
+TellsHeard port way (answers.Report key confirmed) events reply = (events ≡ []) × (reply ≡ OkReport)
 TellsHeard port way (answers.Discard name) events reply = (events ≡ []) × (reply ≡ Discard name)
 TellsHeard port way (answers.Hop answer) events reply = TellsHop port way answer events reply
 

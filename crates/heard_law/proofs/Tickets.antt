@@ -128,7 +128,7 @@ heard_says port way answers.Waiting events reply t = says _ events reply _ refl 
 heard_says port way answers.Old events reply t = says _ events reply _ refl t
 heard_says port way answers.Twice events reply t = says _ events reply _ refl t
 heard_says port way answers.NoCount events reply t = says _ events reply _ refl t
-heard_says port way (answers.Report key) events reply t = says _ events reply _ refl t
+heard_says port way (answers.Report key confirmed) events reply t = says _ events reply _ refl t
 heard_says port way (answers.Discard name) events reply t = says _ events reply _ refl t
 heard_says port way (answers.Hop answer) events reply t = hop_says port way answer events reply t
 

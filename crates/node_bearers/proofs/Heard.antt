@@ -5,10 +5,11 @@ use Rattle.link_base.specs.declared.names.Key.{Key}
 use Rattle.link_base.specs.declared.names.Way.{Way}
 use Rattle.link_base.specs.declared.names.Way.TheVariants.{Ul, Dl}
 use Rattle.pdcp_pdu.specs.Pdcp.{Sdu, Report, IsPdcp, IsPdcpFault}
-use Rattle.pdcp_model.specs.Sender.{Sender, hears_report, IsBeyond}
+use Rattle.pdcp_model.specs.Sender.{Sender, confirmed, hears_report, IsBeyond}
 use Rattle.pdcp_model.specs.Receiver.{Receiver, Hears}
 use Rattle.rlc_model.specs.Sides.{flip}
 use Rattle.node_model.specs.declared.answers.NodeHeard.{NodeHeard}
+use Rattle.node_model.specs.declared.answers.NodeHeard.TheVariants as answers
 use Rattle.node_model.specs.Names.{back}
 use Rattle.node_model.specs.State.{Outgoing, Incoming, outgoing, incoming}
 use Rattle.node_model.specs.Ends.{HearsPdcp}
@@ -54,7 +55,7 @@ module _ (key : Key) (sends : Way) (b : Bearer) (rows : List Bearer) (place : �
       to_sender fmc map (subst (λ (r : Receiver). IsPdcp r.size (Report fmc map) pdu) (sym rx_is) is)
       (inl (
         subst (λ (s : Sender). IsBeyond s fmc map → ⊥) (sym tx_is) taken.0,
-        taken.1,
+        taken.1 ∙ ap (λ (s : Sender). answers.Report (back key) (confirmed s)) (sym tx_is),
         ap (λ (x : Bearer). node_with sends (set rows place x)) taken.2
             ∙ sets_sent (back key) sends b rows place order here (record b { tx = hears_report b.tx fmc map }) (λ o. record o { sender = hears_report o.sender fmc map }) (back_at key sends rows place at) refl refl refl,
       ))

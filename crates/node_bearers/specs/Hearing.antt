@@ -5,7 +5,7 @@ use Rattle.link_base.specs.declared.discard.Discard.TheVariants as discards
 use Rattle.pdcp_pdu.specs.declared.pdu.PdcpFault.{PdcpFault}
 use Rattle.pdcp_pdu.specs.Pdcp.{Sdu, Report, IsPdcp, IsPdcpFault}
 use Rattle.pdcp_model.specs.declared.answers.PdcpHeard.{PdcpHeard}
-use Rattle.pdcp_model.specs.Sender.{hears_report, IsBeyond}
+use Rattle.pdcp_model.specs.Sender.{confirmed, hears_report, IsBeyond}
 use Rattle.pdcp_model.specs.Receiver.{Receiver, Hears}
 use Rattle.pdcp_rx.specs.Receiver.{IsNew}
 use Rattle.node_model.specs.declared.answers.NodeHeard.{NodeHeard}
@@ -17,7 +17,7 @@ use Rattle.node_bearers.specs.declared.bearer.Bearer.{Bearer}
 -- its sender, which is that of this key, hears a status report
 abbrev pub HearsReportAt : Bearer → Key → ℕ → List ℕ → NodeHeard → Bearer → Type 0
 HearsReportAt old key fmc map answer new =
-    ((IsBeyond old.tx fmc map → ⊥) × (answer ≡ answers.Report key) × (new ≡ record old { tx = hears_report old.tx fmc map }))
+    ((IsBeyond old.tx fmc map → ⊥) × (answer ≡ answers.Report key (confirmed old.tx)) × (new ≡ record old { tx = hears_report old.tx fmc map }))
     ⊎ (IsBeyond old.tx fmc map × (answer ≡ answers.Discard discards.ReportBeyond) × (new ≡ old))
 
 -- a PDCP PDU comes for the key that it receives: the receiver hears a data PDU, the sender a status report

@@ -69,10 +69,16 @@ impl Bearer {
                 let heard = self.rx.hear(sn, body)?;
                 Ok(heard_as(key, heard))
             }
-            Ok(PdcpView::Report { fmc, map }) => match self.tx.hear_report(fmc, map) {
-                Ok(()) => Ok(NodeHeard::Report(back(key))),
-                Err(_) => Ok(NodeHeard::Discard(Discard::ReportBeyond)),
-            },
+            Ok(PdcpView::Report { fmc, map }) => {
+                let confirmed = self.tx.confirmed();
+                match self.tx.hear_report(fmc, map) {
+                    Ok(()) => Ok(NodeHeard::Report {
+                        key: back(key),
+                        confirmed,
+                    }),
+                    Err(_) => Ok(NodeHeard::Discard(Discard::ReportBeyond)),
+                }
+            }
             Err(fault) => Ok(NodeHeard::Discard(discard_of(fault))),
         }
     }

@@ -40,7 +40,7 @@ use Rattle.rlc_law.specs.OneOutcome.{SameReceiver}
 use Rattle.rlc_law.proofs.OneReceiver.{one_hearing}
 use Rattle.rlc_law.proofs.OneStatus.{one_status_hearing}
 use Rattle.pdcp_pdu.specs.Pdcp.{Sdu, Report, IsPdcp, IsPdcpFault}
-use Rattle.pdcp_model.specs.Sender.{hears_report, IsBeyond}
+use Rattle.pdcp_model.specs.Sender.{confirmed, hears_report, IsBeyond}
 use Rattle.pdcp_model.specs.Receiver.{Receiver, Hears as HearsCount}
 use Rattle.node_model.specs.declared.answers.NodeHeard.{NodeHeard}
 use Rattle.node_model.specs.declared.answers.NodeHeard.TheVariants as answers
@@ -142,7 +142,7 @@ report_too m n e key fmc map a m' (inl p) =
     let same = out_too m n e key in
     let n' = set_outgoing n (taken fmc map (outgoing n key)) in (
       n',
-      inl (subst (λ (o : Outgoing). IsBeyond o.sender fmc map → ⊥) same p.0, p.1, refl),
+      inl (subst (λ (o : Outgoing). IsBeyond o.sender fmc map → ⊥) same p.0, p.1 ∙ ap (λ (o : Outgoing). answers.Report key (confirmed o.sender)) same, refl),
       subst (λ (z : Node). SameNode z n') (sym p.2) (out_set m n e (taken fmc map (outgoing m key)) (taken fmc map (outgoing n key)) (ap (taken fmc map) same)),
     )
 report_too m n e key fmc map a m' (inr p) =

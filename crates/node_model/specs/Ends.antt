@@ -11,7 +11,7 @@ use Rattle.pdcp_pdu.specs.declared.pdu.PdcpFault.TheVariants.{Short, ReservedTyp
 use Rattle.pdcp_pdu.specs.Pdcp.{Sdu, Report, IsPdcp, IsPdcpFault}
 use Rattle.pdcp_model.specs.declared.answers.PdcpHeard.{PdcpHeard}
 use Rattle.pdcp_model.specs.declared.answers.PdcpHeard.TheVariants as heard
-use Rattle.pdcp_model.specs.Sender.{confirms, hears_report, IsBeyond}
+use Rattle.pdcp_model.specs.Sender.{confirmed, confirms, hears_report, IsBeyond}
 use Rattle.pdcp_model.specs.Receiver.{Receiver, Hears}
 use Rattle.node_model.specs.declared.answers.NodeHeard.{NodeHeard}
 use Rattle.node_model.specs.declared.answers.NodeHeard.TheVariants as answers
@@ -45,7 +45,7 @@ pub record HearsSdu (old : Node) (key : Key) (sn : ℕ) (sdu : List ℕ) (answer
 -- the sender of a key hears a status report: it takes it, or it was told of what wasn't submitted
 abbrev pub HearsReport : Node → Key → ℕ → List ℕ → NodeHeard → Node → Type 0
 HearsReport old key fmc map answer new =
-    ((IsBeyond (outgoing old key).sender fmc map → ⊥) × (answer ≡ answers.Report key) × (new ≡ set_outgoing old (record (outgoing old key) { sender = hears_report (outgoing old key).sender fmc map })))
+    ((IsBeyond (outgoing old key).sender fmc map → ⊥) × (answer ≡ answers.Report key (confirmed (outgoing old key).sender)) × (new ≡ set_outgoing old (record (outgoing old key) { sender = hears_report (outgoing old key).sender fmc map })))
     ⊎ (IsBeyond (outgoing old key).sender fmc map × (answer ≡ answers.Discard discards.ReportBeyond) × (new ≡ old))
 
 -- a PDCP PDU comes for a key that is received here. A data PDU goes to its receiver; a status report is about the bearer's other way, and goes

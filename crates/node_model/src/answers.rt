@@ -23,8 +23,9 @@ pub enum NodeHeard {
     Twice,
     /// It completed an SDU with an SN that stands for no COUNT.
     NoCount,
-    /// It completed a status report about this key, which the key's sender took.
-    Report(Key),
+    /// It completed a status report about this key, which the key's sender took; so many of its SDUs were confirmed
+    /// before, the first ones without a gap.
+    Report { key: Key, confirmed: u64 },
     /// It completed an SDU that goes no further.
     Discard(Discard),
     /// It completed no SDU: this is the answer of the port's entity. It is never `Amd` with `Complete`.

@@ -49,7 +49,7 @@ one_heard port way answers.Waiting es fs a b p q = both p q
 one_heard port way answers.Old es fs a b p q = both p q
 one_heard port way answers.Twice es fs a b p q = both p q
 one_heard port way answers.NoCount es fs a b p q = both p q
-one_heard port way (answers.Report key) es fs a b p q = both p q
+one_heard port way (answers.Report key confirmed) es fs a b p q = both p q
 one_heard port way (answers.Discard name) es fs a b p q = both p q
 one_heard port way (answers.Hop x) es fs a b p q = one_hop port way x es fs a b p q
 
