@@ -32,18 +32,18 @@ use Rattle.script_text.specs.Lines.{part_of}
 use Rattle.script_text.specs.History.{Entry}
 use Rattle.node_model.specs.Names.{NodeName, AtRelay, is_port, is_way, owner}
 use Rattle.node_model.specs.Sides.{GrantsSide}
-use Rattle.node_model.specs.State.{PortSide, Node, entity_of, entity_at}
+use Rattle.node_model.specs.State.{PortSide, Node, side_at, entity_of, entity_at}
 use Rattle.node_model.proofs.Names.{port_is, port_refl, way_is, way_refl}
 use Rattle.chain_model.specs.Draining.{Moment, entry_of}
 use Rattle.chain_model.specs.Lines.{Unless, grant_refusal, Sends, Granted, apply_refusal, Applies}
 use Rattle.chain_model.specs.Sizes.{port_size}
 use Rattle.chain_model.specs.State.{Chain, node_at, set_node, entity_on, opened}
-use Rattle.chain_model.specs.Steps.{Does}
+use Rattle.chain_model.specs.Steps.{Does, Step}
 use Rattle.chain_model.specs.Told.{air_entry, entry_after, side_epoch}
 use Rattle.chain_law.specs.Entities.{RlcFits}
 use Rattle.chain_law.proofs.Chains.{Holds, node_fits, node_name, node_there, node_set}
 use Rattle.chain_law.proofs.Laws.{rlc_fits}
-use Rattle.chain_law.proofs.Opened.{opened_holds}
+use Rattle.chain_law.proofs.Opened.{opened_holds, side_new}
 use Rattle.chain_law.proofs.Runs.{AnyTicket, never_said, nothing_into, does_hold, step_holds}
 use Rattle.chain_law.proofs.Stands.{nothing_said}
 use Rattle.chain_law.proofs.Tables.{TablesApart}
@@ -51,37 +51,45 @@ use Rattle.book_law.proofs.Tables.{tables_stay}
 use Rattle.book_law.specs.Past.{Goes, steps, drained, ended, Passes, IsDeclaration, AreTables}
 use Rattle.direct_run_law.proofs.Ends.{entity_set}
 use Rattle.heard_law.specs.Telling.{Tells}
-use Rattle.heard_law.proofs.Air.{SendsNone, is_grant, sends_none, grant_refused}
+use Rattle.heard_law.proofs.Air.{SendsNone, is_grant as is_sending, sends_none, grant_refused}
 use Rattle.heard_law.proofs.Along.{passes_told, tells}
 use Rattle.heard_law.proofs.Knowing.{Knows}
 use Rattle.carried_law.specs.Foundations.{SentLaws}
 use Rattle.carried_law.specs.Pieces.{IsPieceOf}
 use Rattle.carried_law.proofs.Keeping.{KeepsSdus}
-use Rattle.carried_law.proofs.Lines.{ChainKeeps, is_apply, does_keep, fed_keep}
+use Rattle.carried_law.proofs.Feeding.{IsFed}
+use Rattle.carried_law.proofs.Lines.{ChainKeeps, is_apply, is_grant, not_granted, does_keep, grant_keeps, fed_keep}
 use Rattle.carried_law.proofs.Switching.{applies_side, own_epoch, epoch_rises, plan_later}
+
+-- what is said, behind a history, of the SDUs that were given to a hop
+abbrev pub Origins : Type 1
+Origins = List Entry → PortName → Way → List ℕ → Type 0
 
 -- a transmitter was given a number, and keeps no other SDU under it than this one
 pub record IsKeptAs (sdu : List ℕ) (n : ℕ) (tx : Tx) : Type 0 where
   pub below : n < tx_next tx
   pub same : (k : Kept) → kept_at tx n ≡ Some k → k.sdu ≡ sdu
 
-kept_on : (sdu : List ℕ) (n : ℕ) (old new : Tx) → KeepsSdus old new → IsKeptAs sdu n old → IsKeptAs sdu n new
+kept_on : {May : List ℕ → Type 0} {Begins : ℕ → Type 0} (sdu : List ℕ) (n : ℕ) (old new : Tx) → KeepsSdus May Begins old new → IsKeptAs sdu n old → IsKeptAs sdu n new
 kept_on sdu n old new keeps is = record {
   below = omega (arith, is.below, keeps.long);
   same = λ k at. elim (keeps.kept n k at) [
-    | inl was ↦ was.2 ∙ is.same was.0 was.1
-    | inr late ↦ absurd (omega (arith, late, is.below))
+    | inl was ↦ was.sdu ∙ is.same was.was was.here
+    | inr new ↦ absurd (omega (arith, new.later, is.below))
   ];
 }
 
--- the data PDUs that were sent are pieces of SDUs, no open transmitter keeps another SDU under the number of one, and each is of an epoch to which its side has come
-pub record AreSent (t : Contents) (h : List Entry) (c : Chain) : Type 0 where
+-- the data PDUs that were sent are pieces of SDUs, no open transmitter keeps another SDU under the number of one, and each is of an epoch to which its side has come. Of
+-- each SDU that an open transmitter keeps, and of each that was sent, this is said
+pub record AreSent (origins : Origins) (t : Contents) (h : List Entry) (c : Chain) : Type 0 where
   pub sdu_of : PortName → Way → ℕ → ℕ → List ℕ
   pub pieces : (ticket : ℕ) (pdu : Pdu) → air_entry h ticket ≡ Some pdu → pdu.status ≡ false
       → IsPieceOf t (sdu_of pdu.port pdu.way pdu.epoch pdu.number) pdu
   pub kept : (ticket : ℕ) (pdu : Pdu) → air_entry h ticket ≡ Some pdu → pdu.status ≡ false
       → (e : Entity) → entity_on c (sender_of pdu.way) pdu.port ≡ Some e → e.epoch ≡ pdu.epoch → IsKeptAs (sdu_of pdu.port pdu.way pdu.epoch pdu.number) pdu.number e.tx
   pub epochs : (ticket : ℕ) (pdu : Pdu) → air_entry h ticket ≡ Some pdu → pdu.epoch ≤ side_epoch (sender_of pdu.way) pdu.port h
+  pub given : (side : Side) (port : PortName) (e : Entity) → entity_on c side port ≡ Some e → (n : ℕ) (k : Kept) → kept_at e.tx n ≡ Some k → origins h port (way_from side) k.sdu
+  pub origin : (ticket : ℕ) (pdu : Pdu) → air_entry h ticket ≡ Some pdu → pdu.status ≡ false → origins h pdu.port pdu.way (sdu_of pdu.port pdu.way pdu.epoch pdu.number)
 
 -- the side that sends in the way in which a side sends
 sender_from : (side : Side) → sender_of (way_from side) ≡ side
@@ -101,31 +109,56 @@ none_declared : (line : Line) (reply : Reply) → (part_of line ≡ Running → 
 none_declared (Grant port way octets) reply not_running = absurd (not_running refl)
 none_declared line reply not_running = λ h ticket before. refl
 
-none_shown : (h : List Entry) → AllByRecursion IsDeclaration h → (ticket : ℕ) → air_entry h ticket ≡ None
+pub none_shown : (h : List Entry) → AllByRecursion IsDeclaration h → (ticket : ℕ) → air_entry h ticket ≡ None
 none_shown [] all ticket = refl
 none_shown (e ∷ h) all ticket = none_declared e.line e.reply all.0.part h ticket (air_entry h ticket) ∙ none_shown h all.1 ticket
 
-module _ (t : Contents) where
-  -- transmitters keep what they kept
-  sent_on : (h : List Entry) (old new : Chain) → ChainKeeps old new → AreSent t h old → AreSent t h new
-  sent_on h old new keeps s = record {
+-- at the start no transmitter keeps an SDU
+pub nothing_kept : (t : Contents) (side : Side) (q : PortName) (e : Entity) → entity_on (opened t) side q ≡ Some e → (n : ℕ) (k : Kept) → kept_at e.tx n ≡ Some k → ⊥
+nothing_kept t side q e is n k at = by (side_at (node_at (opened t) (owner side q)) q) refl is
+  where
+    by : (o : Option PortSide) → side_at (node_at (opened t) (owner side q)) q ≡ o → option_and_then entity_of o ≡ Some e → ⊥
+    by None here is = none-some e is
+    by (Some s) here is = elim (side_new t (owner side q) q s here).entity [
+      | inl none ↦ none-some e (sym none ∙ is)
+      | inr some ↦ none-some k (ap (λ (x : Entity). kept_at x.tx n) (same_Some _ e (sym some ∙ is)) ∙ at)
+    ]
+
+module _ (origins : Origins) (more : (e : Entry) (h : List Entry) (port : PortName) (way : Way) (sdu : List ℕ) → origins h port way sdu → origins (e ∷ h) port way sdu)
+    (t : Contents) where
+  -- transmitters keep what they kept, and what they were given is of such an origin
+  sent_on : {May : NodeName → PortName → List ℕ → Type 0} {Begins : NodeName → PortName → ℕ → Type 0} (h : List Entry) (old new : Chain) → ChainKeeps May Begins old new
+      → ((side : Side) (q : PortName) (was e : Entity) → entity_on old side q ≡ Some was → entity_on new side q ≡ Some e → (sdu : List ℕ) → May (owner side q) q sdu
+      → origins h q (way_from side) sdu)
+      → AreSent origins t h old → AreSent origins t h new
+  sent_on h old new keeps so s = record {
     sdu_of = s.sdu_of;
     pieces = s.pieces;
     kept = λ ticket pdu shown data_pdu e is epoch.
-        let was = (keeps (owner (sender_of pdu.way) pdu.port)).sides pdu.port e is in
+        let was = (keeps.nodes (owner (sender_of pdu.way) pdu.port)).sides pdu.port e is in
         kept_on (s.sdu_of pdu.port pdu.way pdu.epoch pdu.number) pdu.number was.0.tx e.tx was.3
         (s.kept ticket pdu shown data_pdu was.0 was.1 (sym was.2 ∙ epoch));
     epochs = s.epochs;
+    given = λ side q e is n k at.
+        let was = (keeps.nodes (owner side q)).sides q e is in
+        elim (was.3.kept n k at) [
+          | inl x ↦ subst (origins h q (way_from side)) (sym x.sdu) (s.given side q was.0 was.1 n x.was x.here)
+          | inr new ↦ so side q was.0 e was.1 is k.sdu new.allowed
+        ];
+    origin = s.origin;
   }
 
   -- a line sends none
-  sent_none : (h : List Entry) (e : Entry) (c : Chain) → SendsNone e.line e.reply → AreSent t h c → AreSent t (e ∷ h) c
+  sent_none : (h : List Entry) (e : Entry) (c : Chain) → SendsNone e.line e.reply → AreSent origins t h c → AreSent origins t (e ∷ h) c
   sent_none h e c none s = record {
     sdu_of = s.sdu_of;
     pieces = λ ticket pdu shown. s.pieces ticket pdu (sym (none h ticket (air_entry h ticket)) ∙ shown);
     kept = λ ticket pdu shown. s.kept ticket pdu (sym (none h ticket (air_entry h ticket)) ∙ shown);
     epochs = λ ticket pdu shown. omega
         (arith, s.epochs ticket pdu (sym (none h ticket (air_entry h ticket)) ∙ shown), epoch_rises e h (sender_of pdu.way) pdu.port);
+    given = λ side q x is n k at. more e h q (way_from side) k.sdu (s.given side q x is n k at);
+    origin = λ ticket pdu shown data_pdu. more e h pdu.port pdu.way (s.sdu_of pdu.port pdu.way pdu.epoch pdu.number)
+        (s.origin ticket pdu (sym (none h ticket (air_entry h ticket)) ∙ shown) data_pdu);
   }
 
   -- a grant sends a PDU
@@ -160,7 +193,7 @@ module _ (t : Contents) where
           said = ap (λ (r : Reply). entry_after h (Grant port way octets) r ticket (air_entry h ticket)) s.0
 
       -- and of an epoch to which its side has come
-      epochs_on : AreSent t h mid → (ticket : ℕ) (pdu : Pdu) → air_entry (entry ∷ h) ticket ≡ Some pdu → pdu.epoch ≤ side_epoch (sender_of pdu.way) pdu.port (entry ∷ h)
+      epochs_on : AreSent origins t h mid → (ticket : ℕ) (pdu : Pdu) → air_entry (entry ∷ h) ticket ≡ Some pdu → pdu.epoch ≤ side_epoch (sender_of pdu.way) pdu.port (entry ∷ h)
       epochs_on was ticket pdu shown = elim (shown_as ticket pdu shown) [
         | inr before ↦ omega (arith, was.epochs ticket pdu before, epoch_rises entry h (sender_of pdu.way) pdu.port)
         | inl this ↦ subst (λ (p : Pdu). p.epoch ≤ side_epoch (sender_of p.way) p.port (entry ∷ h)) this
@@ -203,12 +236,15 @@ module _ (t : Contents) where
 
     -- a STATUS PDU is sent
     sends_status : (epoch : ℕ) (node : Node) (number : ℕ) (bytes : List ℕ) → GrantsSide (node_at old at) port octets epoch (grants.Sent true number bytes) node
-        → Sends old node port way epoch (grants.Sent true number bytes) reply mid → AreSent t h mid → AreSent t (entry ∷ h) mid
+        → Sends old node port way epoch (grants.Sent true number bytes) reply mid → AreSent origins t h mid → AreSent origins t (entry ∷ h) mid
     sends_status epoch node number bytes g s was = record {
       sdu_of = was.sdu_of;
       pieces = λ ticket pdu shown data_pdu. was.pieces ticket pdu (before ticket pdu shown data_pdu) data_pdu;
       kept = λ ticket pdu shown data_pdu. was.kept ticket pdu (before ticket pdu shown data_pdu) data_pdu;
       epochs = epochs_on epoch node true number bytes g s was;
+      given = λ side q e is n k at. more entry h q (way_from side) k.sdu (was.given side q e is n k at);
+      origin = λ ticket pdu shown data_pdu. more entry h pdu.port pdu.way (was.sdu_of pdu.port pdu.way pdu.epoch pdu.number)
+          (was.origin ticket pdu (before ticket pdu shown data_pdu) data_pdu);
     }
       where
         before : (ticket : ℕ) (pdu : Pdu) → air_entry (entry ∷ h) ticket ≡ Some pdu → pdu.status ≡ false → air_entry h ticket ≡ Some pdu
@@ -238,10 +274,10 @@ module _ (t : Contents) where
 
       is_piece : IsPieceOf t sdu x
       is_piece =
-          let p = laws.pieces o can m.0 m.2.among in
+          let p = laws.heard.pieces o can m.0 m.2.among in
           let z = size epoch node false number bytes g s in (
             m.0.view,
-            subst (λ (z : SnSize). IsAmd z m.0.view bytes) z (subst (IsAmd o.tx.size m.0.view) (sym m.2.octets) (laws.reads_back o.tx.size m.0.view p.3).1),
+            subst (λ (z : SnSize). IsAmd z m.0.view bytes) z (subst (IsAmd o.tx.size m.0.view) (sym m.2.octets) (laws.heard.reads_back o.tx.size m.0.view p.3).1),
             p.1 ∙ ap (λ (n : ℕ). n % modulus o.tx.size) m.1 ∙ ap (λ (z : SnSize). number % modulus z) z,
             subst (λ (n : ℕ). IsPiece (given_at o n) m.0.view) m.1 p.2,
           )
@@ -254,7 +290,7 @@ module _ (t : Contents) where
           let one : its.0 ≡ p.0 = same_Some its.0 p.0 (sym its.1 ∙ ap (f.ports port) same ∙ p.1) in
           let tx : e.tx ≡ o.tx = its.2.its_tx ∙ ap (λ (p : Port). (hop_of p (way_from (sender_of way))).tx) one in
           record {
-            below = omega (arith, ap tx_next tx, (laws.in_order o can).0, (laws.pieces o can m.0 m.2.among).0, m.1);
+            below = omega (arith, ap tx_next tx, (laws.heard.ports.in_order o can).0, (laws.heard.pieces o can m.0 m.2.among).0, m.1);
             same = λ k here. laws.kept o can number k (ap (λ (u : Tx). kept_at u number) (sym tx) ∙ here);
           }
 
@@ -265,7 +301,7 @@ module _ (t : Contents) where
       this_is : is_this port (way_from (sender_of way)) epoch number ≡ true
       this_is = and_from _ _ (port_refl port) (and_from _ _ (way_refl (way_from (sender_of way))) (and_from _ _ (eq-eqb epoch epoch refl) (eq-eqb number number refl)))
 
-      module _ (was : AreSent t h mid) where
+      module _ (was : AreSent origins t h mid) where
         abbrev new_sdu : PortName → Way → ℕ → ℕ → List ℕ
         new_sdu p w e n = cond (is_this p w e n) sdu (was.sdu_of p w e n)
 
@@ -295,7 +331,17 @@ module _ (t : Contents) where
               ∙ theirs.same (record sent.kept { flags = sent.flags }) (ap (kept_at g.tx) (sym (eqb-true number pdu.number c.1)) ∙ sent.this)
         ]
 
-        sends_data : AreSent t (entry ∷ h) mid
+        -- the SDU that is sent was kept, and so it has its origin
+        its_origin : origins (entry ∷ h) port (way_from (sender_of way)) sdu
+        its_origin =
+            let e = now epoch node false number bytes g s in
+            let sent = g.grants.1.2 in
+            let open_e = open_now epoch node false number bytes g s in
+            more entry h port (way_from (sender_of way)) sdu
+            (subst (origins h port (way_from (sender_of way))) ((kept_by e open_e (sym g.its_epoch)).same (record sent.kept { flags = sent.flags }) sent.this)
+            (was.given (sender_of way) port e open_e number (record sent.kept { flags = sent.flags }) sent.this))
+
+        sends_data : AreSent origins t (entry ∷ h) mid
         sends_data = record {
           sdu_of = new_sdu;
           pieces = λ ticket pdu shown data_pdu. elim (shown_as epoch node false number bytes g s ticket pdu shown) [
@@ -311,104 +357,137 @@ module _ (t : Contents) where
                 (was.kept ticket pdu before data_pdu e is same)
           ];
           epochs = epochs_on epoch node false number bytes g s was;
+          given = λ side q e is n k at. more entry h q (way_from side) k.sdu (was.given side q e is n k at);
+          origin = λ ticket pdu shown data_pdu. elim (shown_as epoch node false number bytes g s ticket pdu shown) [
+            | inl this ↦ subst (λ (p : Pdu). origins (entry ∷ h) p.port p.way (new_sdu p.port p.way p.epoch p.number)) this
+                (subst (origins (entry ∷ h) port (way_from (sender_of way))) (sym new_is) its_origin)
+            | inr before ↦ subst (origins (entry ∷ h) pdu.port pdu.way) (sym (stays ticket pdu before data_pdu))
+                (more entry h pdu.port pdu.way (was.sdu_of pdu.port pdu.way pdu.epoch pdu.number) (was.origin ticket pdu before data_pdu))
+          ];
         }
 
-    silent : (r : Reply) → reply ≡ r → SendsNone (Grant port way octets) r → AreSent t h mid → AreSent t (entry ∷ h) mid
+    silent : (r : Reply) → reply ≡ r → SendsNone (Grant port way octets) r → AreSent origins t h mid → AreSent origins t (entry ∷ h) mid
     silent r is none was = sent_none h entry mid (subst (SendsNone (Grant port way octets)) (sym is) none) was
 
     granted : (epoch : ℕ) (node : Node) (answer : HopGrant) → GrantsSide (node_at old at) port octets epoch answer node → Sends old node port way epoch answer reply mid
-        → AreSent t h mid → AreSent t (entry ∷ h) mid
+        → AreSent origins t h mid → AreSent origins t (entry ∷ h) mid
     granted epoch node (grants.Sent true number bytes) g s was = sends_status epoch node number bytes g s was
     granted epoch node (grants.Sent false number bytes) g s was = sends_data epoch node number bytes g s was
     granted epoch node grants.Idle g s was = silent _ s.0 (λ h ticket before. refl) was
     granted epoch node (grants.Small need) g s was = silent _ s.0 (λ h ticket before. refl) was
 
-    grants_sent : (own : List Event) → Unless (grant_refusal old port way) old own reply mid (Granted old port way octets own reply mid) → AreSent t h mid
-        → AreSent t (entry ∷ h) mid
+    grants_sent : (own : List Event) → Unless (grant_refusal old port way) old own reply mid (Granted old port way octets own reply mid) → AreSent origins t h mid
+        → AreSent origins t (entry ∷ h) mid
     grants_sent own = by (grant_refusal old port way) refl
       where
-        by : (refusal : Option Reply) → grant_refusal old port way ≡ refusal → Unless refusal old own reply mid (Granted old port way octets own reply mid) → AreSent t h mid
-            → AreSent t (entry ∷ h) mid
+        by : (refusal : Option Reply) → grant_refusal old port way ≡ refusal → Unless refusal old own reply mid (Granted old port way octets own reply mid) → AreSent origins t h mid
+            → AreSent origins t (entry ∷ h) mid
         by None is g was = granted g.epoch g.node g.answer g.grants g.sends was
         by (Some r) is u was = silent r u.1 (grant_refused old mid port way octets r is) was
 
   -- a node applies a plan
   applies_sent : (h : List Entry) (old mid : Chain) → Knows t h old → (remote : Remote) (kind : NodeKind) (own events : List Event) (reply : Reply)
-      → Unless (apply_refusal old remote kind) old own reply mid (Applies old remote kind own reply mid) → AreSent t h old
-      → AreSent t (record { line = Apply remote kind; events = events; reply = reply } ∷ h) mid
+      → Unless (apply_refusal old remote kind) old own reply mid (Applies old remote kind own reply mid) → AreSent origins t h old
+      → AreSent origins t (record { line = Apply remote kind; events = events; reply = reply } ∷ h) mid
   applies_sent h old mid knows remote kind own events reply d s = by (apply_refusal old remote kind) refl d
     where
       by : (refusal : Option Reply) → apply_refusal old remote kind ≡ refusal → Unless refusal old own reply mid (Applies old remote kind own reply mid)
-          → AreSent t (record { line = Apply remote kind; events = events; reply = reply } ∷ h) mid
-      by (Some r) is u = sent_none h (record { line = Apply remote kind; events = events; reply = reply }) mid (λ h ticket before. refl) (subst (AreSent t h) (sym u.2) s)
+          → AreSent origins t (record { line = Apply remote kind; events = events; reply = reply } ∷ h) mid
+      by (Some r) is u = sent_none h (record { line = Apply remote kind; events = events; reply = reply }) mid (λ h ticket before. refl) (subst (AreSent origins t h) (sym u.2) s)
       by None none a = sent_none h (record { line = Apply remote kind; events = events; reply = reply }) mid (λ h ticket before. refl) (record {
         sdu_of = s.sdu_of;
         pieces = s.pieces;
         kept = λ ticket pdu shown data_pdu x is epoch. elim (applies_side old mid remote kind own reply a (sender_of pdu.way) pdu.port x is) [
           | inl was ↦ s.kept ticket pdu shown data_pdu x was epoch
-          | inr new ↦ absurd (omega
-              (arith, s.epochs ticket pdu shown, own_epoch h (sender_of pdu.way) pdu.port remote kind new.0 new.1, new.2, epoch, plan_later t h old knows remote kind none a.plan a.its))
+          | inr new ↦
+              let its : x.epoch ≡ a.plan.epoch = ap (λ (e : Entity). e.epoch) new.3 in
+              absurd (omega (arith, s.epochs ticket pdu shown, own_epoch h (sender_of pdu.way) pdu.port remote kind new.0 new.1, its, epoch,
+              plan_later t h old knows remote kind none a.plan a.its))
         ];
         epochs = s.epochs;
+        given = λ side q x is n k at. elim (applies_side old mid remote kind own reply a side q x is) [
+          | inl was ↦ s.given side q x was n k at
+          | inr new ↦ absurd (none-some k (sym (ap (λ (e : Entity). kept_at e.tx n) new.3) ∙ at))
+        ];
+        origin = s.origin;
       })
+
+  -- what the relay gives is of such an origin
+  abbrev GivenAtRelay : List Entry → Chain → Type 0
+  GivenAtRelay h c = (side : Side) (q : PortName) (e : Entity) → entity_on c side q ≡ Some e → owner side q ≡ AtRelay → (sdu : List ℕ) → origins h q (way_from side) sdu
+
+  -- so is what the nodes have to give over ports that are open once they have fed
+  abbrev FedSo : List Entry → Chain → Chain → Type 0
+  FedSo h c fed = (side : Side) (q : PortName) (e : Entity) → entity_on fed side q ≡ Some e → (sdu : List ℕ) → IsFed c.tables (node_at c (owner side q)) q sdu
+      → origins h q (way_from side) sdu
 
   module _ (laws : SentLaws) where
     -- a line, before the nodes feed
-    does_sent : (h : List Entry) (old mid : Chain) → Tells h old → Knows t h old → Holds nothing_said old → Holds nothing_said mid → mid.tables ≡ t
-        → (line : Line) (own events : List Event) (reply : Reply) → Does old line own reply mid → AreSent t h old
-        → AreSent t (record { line = line; events = events; reply = reply } ∷ h) mid
-    does_sent h old mid told knows before holds tables line own events reply d s = elim (cases_Bool (is_apply line)) [
+    does_sent : (h : List Entry) (old mid : Chain) → Tells h old → Knows t h old → Holds nothing_said old → Holds nothing_said mid → mid.tables ≡ t → GivenAtRelay h old
+        → (line : Line) (own events : List Event) (reply : Reply) → Does old line own reply mid → AreSent origins t h old
+        → AreSent origins t (record { line = line; events = events; reply = reply } ∷ h) mid
+    does_sent h old mid told knows before holds tables relayed line own events reply d s = elim (cases_Bool (is_apply line)) [
       | inl is ↦ apply line is d
-      | inr no_apply ↦
-          let was : AreSent t h mid = sent_on h old mid (does_keep laws old mid (node_fits old before AtRelay) line own reply no_apply d) s in
-          elim (cases_Bool (is_grant old mid line)) [
-            | inr other ↦ sent_none h (record { line = line; events = events; reply = reply }) mid (sends_none old mid line reply other) was
-            | inl is ↦ grant was line is d
-          ]
+      | inr no_apply ↦ elim (cases_Bool (is_grant line)) [
+        | inl is ↦ grant line is d
+        | inr no_grant ↦ sent_none h (record { line = line; events = events; reply = reply }) mid (sends_none old mid line reply (not_granted old mid line no_grant))
+            (sent_on h old mid (does_keep {May = λ x q sdu. x ≡ AtRelay} {Begins = λ x q n. Unit {0}} old mid laws (node_fits old before AtRelay) (λ q sdu. refl) line own reply
+            no_apply no_grant d) (λ side q was e here is sdu at. relayed side q was here at sdu) s)
+      ]
     ]
       where
-        apply : (line : Line) → is_apply line ≡ true → Does old line own reply mid → AreSent t (record { line = line; events = events; reply = reply } ∷ h) mid
+        apply : (line : Line) → is_apply line ≡ true → Does old line own reply mid → AreSent origins t (record { line = line; events = events; reply = reply } ∷ h) mid
         apply (Apply remote kind) is d = applies_sent h old mid knows remote kind own events reply d s
         apply line is d = absurd (false≢true is)
 
-        grant : AreSent t h mid → (line : Line) → is_grant old mid line ≡ true → Does old line own reply mid → AreSent t (record { line = line; events = events; reply = reply } ∷ h) mid
-        grant was (Grant port way octets) is d = grants_sent laws h old mid told holds tables port way octets events reply own d was
-        grant was line is d = absurd (false≢true is)
+        grant : (line : Line) → is_grant line ≡ true → Does old line own reply mid → AreSent origins t (record { line = line; events = events; reply = reply } ∷ h) mid
+        grant (Grant port way octets) is d = grants_sent laws h old mid told holds tables port way octets events reply own d
+            (sent_on h old mid (grant_keeps {May = λ x q sdu. x ≡ AtRelay} {Begins = λ x q n. Unit {0}} old mid (λ x q n. tt) port way octets
+            own reply d) (λ side q was e here is sdu at. relayed side q was here at sdu) s)
+        grant line is d = absurd (false≢true is)
 
     -- what holds behind each line
     pub record Behind (h : List Entry) (c : Chain) : Type 0 where
-      pub sent : AreSent t h c
+      pub sent : AreSent origins t h c
       pub holds : Holds nothing_said c
 
-    rests : (h : List Entry) (e : Entry) (old new : Chain) → is_grant old new e.line ≡ false → new ≡ old → Behind h old → Behind (e ∷ h) new
+    rests : (h : List Entry) (e : Entry) (old new : Chain) → is_sending old new e.line ≡ false → new ≡ old → Behind h old → Behind (e ∷ h) new
     rests h e old new no_grant is b = subst (Behind (e ∷ h)) (sym is) (record { sent = sent_none h e old (sends_none old new e.line e.reply no_grant) b.sent; holds = b.holds })
 
-    goes_sent : (h : List Entry) (m : Moment) (new : Chain) → Tells h m.before → Knows t h m.before → new.tables ≡ t → Goes m.before m.entry new → Behind h m.before
-        → Behind (m.entry ∷ h) new
-    goes_sent h m new told knows tables (steps s) b =
+    goes_sent : (h : List Entry) (m : Moment) (new : Chain) → Tells h m.before → Knows t h m.before → new.tables ≡ t
+        → ((s : Step m.before m.entry.line m.entry.events m.entry.reply new) → GivenAtRelay h m.before × FedSo (m.entry ∷ h) s.mid (record s.mid { nodes = s.nodes }))
+        → Goes m.before m.entry new → Behind h m.before → Behind (m.entry ∷ h) new
+    goes_sent h m new told knows tables origin_so (steps s) b =
         let e = m.entry in
-        let holds_mid = does_hold laws.ports AnyTicket never_said m.before e.line s.own e.reply s.mid (nothing_into m.before e.line s.own) b.holds s.does in
+        let holds_mid = does_hold laws.heard.ports AnyTicket never_said m.before e.line s.own e.reply s.mid (nothing_into m.before e.line s.own) b.holds s.does in
         let mid_tables : s.mid.tables ≡ t = sym (ap (λ (c : Chain). c.tables) s.is) ∙ tables in
-        let mid = does_sent h m.before s.mid told knows b.holds holds_mid mid_tables e.line s.own e.events e.reply s.does b.sent in
+        let mid = does_sent h m.before s.mid told knows b.holds holds_mid mid_tables (origin_so s).0 e.line s.own e.events e.reply s.does b.sent in
         record {
-          sent = subst (AreSent t (e ∷ h)) (sym s.is) (sent_on (e ∷ h) s.mid (record s.mid { nodes = s.nodes }) (fed_keep s.mid s.given s.nodes s.feeds) mid);
-          holds = step_holds laws.ports AnyTicket never_said m.before e.line e.events e.reply new s (nothing_into m.before e.line s.own) b.holds;
+          sent = subst (AreSent origins t (e ∷ h)) (sym s.is) (sent_on (e ∷ h) s.mid (record s.mid { nodes = s.nodes })
+              (fed_keep s.mid s.given s.nodes s.feeds {May = λ x q sdu. IsFed s.mid.tables (node_at s.mid x) q sdu} {Begins = λ x q n. Unit {0}} (λ x q sdu given. given))
+              (λ side q was x here is sdu given. (origin_so s).1 side q x is sdu given) mid);
+          holds = step_holds laws.heard.ports AnyTicket never_said m.before e.line e.events e.reply new s (nothing_into m.before e.line s.own) b.holds;
         }
-    goes_sent h m new told knows tables (drained line none is whole) b = rests h m.entry m.before new (ap (is_grant m.before new) line) is b
-    goes_sent h m new told knows tables (ended line none says is) b = rests h m.entry m.before new (ap (is_grant m.before new) line) is b
+    goes_sent h m new told knows tables origin_so (drained line none is whole) b = rests h m.entry m.before new (ap (is_sending m.before new) line) is b
+    goes_sent h m new told knows tables origin_so (ended line none says is) b = rests h m.entry m.before new (ap (is_sending m.before new) line) is b
 
-    module _ (apart : TablesApart t) (are : AreTables t) (declared : List Entry) (all : AllByRecursion IsDeclaration declared) where
-      pub behind_lines : (ms : List Moment) (c : Chain) → Passes t ms c → Behind (map entry_of ms ++ declared) c
-      behind_lines [] c is = subst (Behind declared) (sym is) (record {
+    module _ (apart : TablesApart t) (are : AreTables t) (declared : List Entry) (all : AllByRecursion IsDeclaration declared) (Only : Entry → Type 0)
+        (origin_so : (ms : List Moment) (m : Moment) (new : Chain) → Passes t (m ∷ ms) new → AllByRecursion Only (map entry_of (m ∷ ms))
+        → (s : Step m.before m.entry.line m.entry.events m.entry.reply new)
+        → GivenAtRelay (map entry_of ms ++ declared) m.before × FedSo (m.entry ∷ map entry_of ms ++ declared) s.mid (record s.mid { nodes = s.nodes })) where
+      pub behind_lines : (ms : List Moment) (c : Chain) → Passes t ms c → AllByRecursion Only (map entry_of ms) → Behind (map entry_of ms ++ declared) c
+      behind_lines [] c is only = subst (Behind declared) (sym is) (record {
         sent = record {
           sdu_of = λ port way epoch n. [];
           pieces = λ ticket pdu shown. absurd (none-some pdu (sym (none_shown declared all ticket) ∙ shown));
           kept = λ ticket pdu shown. absurd (none-some pdu (sym (none_shown declared all ticket) ∙ shown));
           epochs = λ ticket pdu shown. absurd (none-some pdu (sym (none_shown declared all ticket) ∙ shown));
+          given = λ side q e is n k at. absurd (nothing_kept t side q e is n k at);
+          origin = λ ticket pdu shown. absurd (none-some pdu (sym (none_shown declared all ticket) ∙ shown));
         };
         holds = opened_holds t (λ name epoch way. tt) apart;
       })
-      behind_lines (m ∷ ms) c (before, goes) =
+      behind_lines (m ∷ ms) c (before, goes) only =
           let told = passes_told t are declared all ms m.before before in
           goes_sent (map entry_of ms ++ declared) m c (tells t are (map entry_of ms ++ declared) m.before (tables_stay t ms m.before before) told) told.knows
-          (tables_stay t (m ∷ ms) c (before, goes)) goes (behind_lines ms m.before before)
+          (tables_stay t (m ∷ ms) c (before, goes)) (origin_so ms m c (before, goes) only) goes (behind_lines ms m.before before only.1)

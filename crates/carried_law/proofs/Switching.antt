@@ -1,4 +1,4 @@
--- What an apply leaves: a side of a port is as it was, or opens in the epoch of the remote's plan, to which the history hadn't come.
+-- What an apply leaves: a side of a port is as it was, or opens anew in the epoch of the remote's plan, to which the history hadn't come.
 use Rattle.std.proofs.Common.{◌≡◌, ◌⊎◌, inl, inr, ℕ, ◌+◌, ◌≤◌, Bool, true, false, cond, not, List, ◌∷◌, map, find, Option, Some, None, option_map, option_and_then, refl, sym, ◌∙◌, ap, subst, arith}
 use Rattle.std.specs.Option.{unwrap_or}
 use Rattle.std.proofs.lemmas.Bool.{cases_Bool, cond-true, cond-false, false≢true}
@@ -10,6 +10,7 @@ use Rattle.link_base.specs.declared.names.PortName.{PortName}
 use Rattle.link_base.specs.declared.names.PortName.TheVariants.{Direct, Pc5, Uu}
 use Rattle.link_base.specs.declared.names.Remote.{Remote}
 use Rattle.link_base.specs.declared.names.Side.{Side}
+use Rattle.link_base.specs.declared.names.SnSize.{SnSize}
 use Rattle.bearer_map.specs.Contents.{Contents}
 use Rattle.bearer_map.specs.declared.settings.Settings.{Settings}
 use Rattle.rlc_model.specs.Sides.{Entity}
@@ -37,23 +38,23 @@ use Rattle.heard_law.proofs.Knowing.{Knows}
 
 -- a node's side behind an apply
 applied_side : (s : Settings) (remote : Remote) (goal : Goal) (epoch : ℕ) (n : Node) (q : PortName) (e : Entity) → entity_at (node_after s remote goal epoch n) q ≡ Some e
-    → (entity_at n q ≡ Some e) ⊎ ((is_of remote q ≡ true) × (e.epoch ≡ epoch))
+    → (entity_at n q ≡ Some e) ⊎ ((is_of remote q ≡ true) × (size : SnSize) × (e ≡ new_entity s size epoch))
 applied_side s remote goal epoch n q e is = by (side_at n q) refl
   where
     now : entity_at (node_after s remote goal epoch n) q ≡ option_and_then entity_of (option_map (side_after s remote goal epoch) (side_at n q))
     now = ap (option_and_then entity_of) (find_map (side_after s remote goal epoch) (λ (x : PortSide). is_port q x.name) n.ports)
 
-    opens : (b : Bool) (size : _) → cond b (Some (new_entity s size epoch)) None ≡ Some e → e.epoch ≡ epoch
-    opens true size e_is = ap (λ (x : Entity). x.epoch) (sym (same_Some (new_entity s size epoch) e e_is))
+    opens : (b : Bool) (size : SnSize) → cond b (Some (new_entity s size epoch)) None ≡ Some e → e ≡ new_entity s size epoch
+    opens true size e_is = sym (same_Some (new_entity s size epoch) e e_is)
     opens false size e_is = absurd (none-some e e_is)
 
-    by : (o : Option PortSide) → side_at n q ≡ o → (entity_at n q ≡ Some e) ⊎ ((is_of remote q ≡ true) × (e.epoch ≡ epoch))
+    by : (o : Option PortSide) → side_at n q ≡ o → (entity_at n q ≡ Some e) ⊎ ((is_of remote q ≡ true) × (size : SnSize) × (e ≡ new_entity s size epoch))
     by None at = absurd (none-some e (sym (ap (λ (o : Option PortSide). option_and_then entity_of (option_map (side_after s remote goal epoch) o)) at) ∙ sym now ∙ is))
     by (Some x) at =
         let its : cond (is_of remote x.name) (cond (is_open_on goal x.name) (Some (new_entity s x.size epoch)) None) x.entity ≡ Some e
         = sym (ap (λ (o : Option PortSide). option_and_then entity_of (option_map (side_after s remote goal epoch) o)) at) ∙ sym now ∙ is in
         elim (cases_Bool (is_of remote x.name)) [
-          | inl own ↦ inr (ap (is_of remote) (side_name n q x at) ∙ own, opens (is_open_on goal x.name) x.size (sym (cond-true (is_of remote x.name) _ x.entity own) ∙ its))
+          | inl own ↦ inr (ap (is_of remote) (side_name n q x at) ∙ own, x.size, opens (is_open_on goal x.name) x.size (sym (cond-true (is_of remote x.name) _ x.entity own) ∙ its))
           | inr other ↦ inl (ap (option_and_then entity_of) at ∙ sym (cond-false (is_of remote x.name) _ x.entity other) ∙ its)
         ]
 
@@ -67,9 +68,19 @@ closed_side remote false c x q = ap (λ (o : Option Node). entity_at (unwrap_or 
     by None = refl
     by (Some n) = refl
 
+-- an apply makes no ticket
+pub applies_air : (old mid : Chain) (remote : Remote) (kind : NodeKind) (own : List Event) (reply : Reply) → Applies old remote kind own reply mid → mid.air ≡ old.air
+applies_air old mid remote kind own reply a = ap (λ (c : Chain). c.air) a.is ∙ by (is_open (marks a.plan kind))
+  where
+    by : (b : Bool) → (closed remote b (set_plan (set_node old (node_after (settings old.tables) remote a.plan.goal a.plan.epoch (node_at old (node_of kind remote))))
+        (marks a.plan kind))).air ≡ old.air
+    by true = refl
+    by false = refl
+
 -- a side behind an apply
 pub applies_side : (old mid : Chain) (remote : Remote) (kind : NodeKind) (own : List Event) (reply : Reply) (a : Applies old remote kind own reply mid) (side : Side) (q : PortName) (e : Entity)
-    → entity_on mid side q ≡ Some e → (entity_on old side q ≡ Some e) ⊎ ((is_of remote q ≡ true) × (owner side q ≡ node_of kind remote) × (e.epoch ≡ a.plan.epoch))
+    → entity_on mid side q ≡ Some e → (entity_on old side q ≡ Some e)
+    ⊎ ((is_of remote q ≡ true) × (owner side q ≡ node_of kind remote) × (size : SnSize) × (e ≡ new_entity (settings old.tables) size a.plan.epoch))
 applies_side old mid remote kind own reply a side q e is = elim (cases_node x y) [
   | inr ne ↦ inl (ap (λ (n : Node). entity_at n q) (sym (node_kept old y m name x ne)) ∙ here)
   | inl this ↦ elim (cases_found (find (λ (n : Node). is_node y n.name) old.nodes)) [
@@ -78,7 +89,7 @@ applies_side old mid remote kind own reply a side q e is = elim (cases_node x y)
     | inl there ↦ elim (applied_side (settings old.tables) remote a.plan.goal a.plan.epoch (node_at old y) q e
         (ap (λ (n : Node). entity_at n q) (sym (ap (node_at (set_node old m)) this ∙ node_set old y m name there.0 there.1)) ∙ here)) [
           | inl was ↦ inl (ap (λ (z : NodeName). entity_at (node_at old z) q) this ∙ was)
-          | inr new ↦ inr (new.0, this, new.1)
+          | inr new ↦ inr (new.0, this, new.1, new.2)
         ]
   ]
 ]

@@ -1,16 +1,9 @@
 -- The laws of PDUs, hops and entities on which the laws of what is sent stand.
-use Rattle.rlc_pdu.specs.Laws.{ReadsBack}
-use Rattle.rlc_law.specs.Laws.{SendsPieces, GivesInOrder, KeepsGiven}
-use Rattle.chain_law.specs.Calls.{HearingKeeps, GrantingKeeps, ExpiryKeeps}
-use Rattle.chain_law.specs.Foundations.{RlcLaws}
+use Rattle.rlc_law.specs.Laws.{KeepsGiven, ConfirmsComplete}
+use Rattle.heard_law.specs.Foundations.{HeardLaws}
 
--- what rlc_pdu, rlc_law and chain_law prove of them
+-- what rlc_pdu, rlc_status, rlc_law and chain_law prove of them
 pub record SentLaws : Type 0 where
-  pub ports : RlcLaws
-  pub reads_back : ReadsBack
-  pub pieces : SendsPieces
-  pub in_order : GivesInOrder
+  pub heard : HeardLaws
   pub kept : KeepsGiven
-  pub hearing : HearingKeeps
-  pub granting : GrantingKeeps
-  pub expiry : ExpiryKeeps
+  pub confirms : ConfirmsComplete

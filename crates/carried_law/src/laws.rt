@@ -1,4 +1,5 @@
 // The laws of what a run sends.
+ghost use Rattle.carried_law.specs.Order.{SentNumbersBeginInOrder};
 ghost use Rattle.carried_law.specs.Pieces.{SentPdusArePieces};
 
 use crate::foundations::laws_of_hops;
@@ -8,6 +9,14 @@ use crate::foundations::laws_of_hops;
 /// 38.322 clauses 5.2.3.1 and 6.2.2.4).
 pub fn sent_pdus_are_pieces()
     ensures { SentPdusArePieces }
+{
+    laws_of_hops();
+}
+
+/// A law: in each run, whatever its lines, each data PDU of a number above 0 is sent behind one of the number below, over the same
+/// port in the same way and epoch (TS 38.322 clause 5.2.3.1.1).
+pub fn sent_numbers_begin_in_order()
+    ensures { SentNumbersBeginInOrder }
 {
     laws_of_hops();
 }

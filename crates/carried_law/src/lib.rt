@@ -7,4 +7,4 @@
 mod foundations;
 mod laws;
 
-pub use laws::sent_pdus_are_pieces;
+pub use laws::{sent_numbers_begin_in_order, sent_pdus_are_pieces};
