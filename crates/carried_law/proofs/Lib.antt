@@ -5,4 +5,7 @@ pub mod Lines
 pub mod Switching
 pub mod Sending
 pub mod Ordering
+pub mod Completing
+pub mod Giving
+pub mod Carrying
 pub mod TheLaws

@@ -1,3 +1,4 @@
 pub mod Pieces
 pub mod Order
+pub mod DirectRuns
 pub mod Foundations
