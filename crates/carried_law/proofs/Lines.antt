@@ -212,8 +212,11 @@ fed_in : (t : Contents) (x : NodeName) (ns : List Node) (given : List Key) (ms :
 fed_in t x [] given ms f = inr (ap (λ (l : List Node). node_in l x) f.1)
 fed_in t x (n ∷ ns) given ms (m, rest, first, more, one, others, are, is) = subst (λ (l : List Node). FedNode t (node_in (n ∷ ns) x) (node_in l x)) (sym is)
     (elim (cases_Bool (is_node x n.name)) [
-      | inl mine ↦ inl (first, subst (λ (y : Node). Feeds t y first (node_in (m ∷ rest) x)) (sym (found n ns mine))
-          (subst (λ (y : Node). Feeds t n first y) (sym (found m rest (ap (is_node x) name ∙ mine))) one))
+      | inl mine ↦ inl (
+        first,
+        subst (λ (y : Node). Feeds t y first (node_in (m ∷ rest) x)) (sym (found n ns mine))
+            (subst (λ (y : Node). Feeds t n first y) (sym (found m rest (ap (is_node x) name ∙ mine))) one),
+      )
       | inr other ↦ subst (λ (y : Node). FedNode t y (node_in (m ∷ rest) x)) (sym (passed n ns other))
           (subst (λ (y : Node). FedNode t (node_in ns x) y) (sym (passed m rest (ap (is_node x) name ∙ other))) (fed_in t x ns more rest others))
     ])

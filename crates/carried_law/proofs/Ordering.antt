@@ -213,8 +213,11 @@ module _ (t : Contents) where
         sent_ordered = record {
           made = λ ticket pdu shown. elim (cases_Bool (length old.air + 1 == ticket)) [
             | inl this ↦ omega (arith, eqb-true (length old.air + 1) ticket this, longer)
-            | inr other ↦ omega (arith, keeps.air,
-                o.made ticket pdu (sym (cond-false (length old.air + 1 == ticket) (Some last) (air_entry h ticket) other) ∙ sym (said ticket) ∙ shown))
+            | inr other ↦ omega (
+              arith,
+              keeps.air,
+              o.made ticket pdu (sym (cond-false (length old.air + 1 == ticket) (Some last) (air_entry h ticket) other) ∙ sym (said ticket) ∙ shown),
+            )
           ];
           delivered = delivered_on h entry stays o.delivered;
           begun = λ side q e is n k here some.

@@ -401,8 +401,14 @@ module _ (origins : Origins) (more : (e : Entry) (h : List Entry) (port : PortNa
           | inl was ↦ s.kept ticket pdu shown data_pdu x was epoch
           | inr new ↦
               let its : x.epoch ≡ a.plan.epoch = ap (λ (e : Entity). e.epoch) new.3 in
-              absurd (omega (arith, s.epochs ticket pdu shown, own_epoch h (sender_of pdu.way) pdu.port remote kind new.0 new.1, its, epoch,
-              plan_later t h old knows remote kind none a.plan a.its))
+              absurd (omega (
+                arith,
+                s.epochs ticket pdu shown,
+                own_epoch h (sender_of pdu.way) pdu.port remote kind new.0 new.1,
+                its,
+                epoch,
+                plan_later t h old knows remote kind none a.plan a.its,
+              ))
         ];
         epochs = s.epochs;
         given = λ side q x is n k at. elim (applies_side old mid remote kind own reply a side q x is) [

@@ -21,7 +21,7 @@ use Rattle.script_text.specs.Lines.{part_of}
 use Rattle.script_text.specs.Stages.{after, entered, is_past_go, part_after, tables_after}
 use Rattle.script_text.specs.Texts.{entry_text}
 use Rattle.chain_model.specs.Book.{IsBook}
-use Rattle.chain_model.specs.Carried.{IsRowOf}
+use Rattle.chain_model.specs.Carried.{IsRowOf, Carried as AreCarriedPdus}
 use Rattle.chain_model.specs.Runs.{Turn, entries, contents, Behaves, Turns, LeadsTo}
 use Rattle.chain_model.specs.State.{Chain, opened}
 use Rattle.book_law.specs.Laws.{HandsUpInOrder}
@@ -149,10 +149,20 @@ module _ (laws : LineLaws) (p : Player) (mid : ScriptStage) (text : List ℕ) (l
           (at, record { direct = direct_or_end line carried at; step = laws.steps h p.stage c leads (keeps_to_direct h p.stage c leads plays.carried) })
       by None is = tables line refl (not_running line p.stage.part parsed.2.stands (sym (ap (λ (o : Option Chain). is_some o) is) ∙ plays.runs))
 
+-- the tables of a run are direct ones
+tables_direct : RunLaws → (h : List Turn) (stage : ScriptStage) (c : Chain) → LeadsTo h stage c → AreCarried h → AreDirect c.tables
+tables_direct laws h stage c leads carried = subst AreDirect (sym (laws.declared h stage c leads)) (laws.direct h stage c leads (keeps_to_direct h stage c leads carried))
+
 -- a run keeps the book of each bearer
 pub keeps_books : RunLaws → (h : List Turn) (stage : ScriptStage) (c : Chain) → LeadsTo h stage c → AreCarried h
     → (row : BearerRow) (key : Key) → IsRowOf c.tables key row → IsBook row key (entries h) × HandsUpInOrder (entries h) key
 keeps_books laws h stage c leads carried =
-    let keeps = keeps_to_direct h stage c leads carried in
-    let direct : AreDirect c.tables = subst AreDirect (sym (laws.declared h stage c leads)) (laws.direct h stage c leads keeps) in
-    laws.books h stage c leads (recursion_from_All BeginsDirect c.tables.remotes direct.paths) (laws.still (entries h) keeps)
+    laws.books h stage c leads (recursion_from_All BeginsDirect c.tables.remotes (tables_direct laws h stage c leads carried).paths)
+    (laws.still (entries h) (keeps_to_direct h stage c leads carried))
+
+-- its data PDUs carry what its ends gave
+pub carries_pdus : RunLaws → (h : List Turn) (stage : ScriptStage) (c : Chain) → LeadsTo h stage c → AreCarried h → AreCarriedPdus c.tables (entries h)
+carries_pdus laws h stage c leads carried =
+    let direct = tables_direct laws h stage c leads carried in
+    laws.pdus h stage c leads (recursion_from_All BeginsDirect c.tables.remotes direct.paths) (record { no_pc5 = direct.no_pc5; no_uu = direct.no_uu })
+    (laws.still (entries h) (keeps_to_direct h stage c leads carried))

@@ -24,7 +24,7 @@ use Rattle.player.specs.Plays.{IsLater, Plays, ReadsText, chain_or}
 use Rattle.player.specs.Turns.{TurnsAt, StopsAtEnd, Finishes}
 use Rattle.player.specs.Runs.{IsRun, Stops, IsBadNext, last_text, own_entry}
 use Rattle.player.proofs.Totals.{totals}
-use Rattle.player.proofs.Carrying.{keeps_books}
+use Rattle.player.proofs.Carrying.{keeps_books, carries_pdus}
 
 -- the chain of a player
 abbrev chain_at : Player → Chain
@@ -135,6 +135,7 @@ module _ (laws : RunLaws) where
         carried = g.plays.carried;
         books = keeps_books laws g.history p.stage (chain_at p) g.plays.leads g.plays.carried;
         hand_ups = laws.exact g.history p.stage (chain_at p) g.plays.leads;
+        pdus = carries_pdus laws g.history p.stage (chain_at p) g.plays.leads g.plays.carried;
         reports = laws.reports g.history p.stage (chain_at p) g.plays.leads;
         stops = stops;
       }

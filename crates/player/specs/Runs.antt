@@ -17,7 +17,7 @@ use Rattle.script_text.specs.Texts.{is_running, totals_text, done_text, bad_text
 use Rattle.script_text.specs.History.{Entry, trace, ReadsLines, Spelt}
 use Rattle.node_model.specs.Tables.{keys}
 use Rattle.chain_model.specs.Book.{submitted, handed, confirmed, IsBook}
-use Rattle.chain_model.specs.Carried.{IsRowOf, ReportsTruly}
+use Rattle.chain_model.specs.Carried.{IsRowOf, Carried, ReportsTruly}
 use Rattle.chain_model.specs.Heard.{HandsUpExactly}
 use Rattle.chain_model.specs.Runs.{Turn, entries, Stands, LeadsTo}
 use Rattle.chain_model.specs.State.{Chain}
@@ -76,6 +76,7 @@ pub record IsRun (input : List ℕ) (ending : Ending) (out : List ℕ) : Type 0 
   pub carried : AreCarried history
   pub books : (row : BearerRow) (key : Key) → IsRowOf chain.tables key row → IsBook row key (entries history) × HandsUpInOrder (entries history) key
   pub hand_ups : (row : BearerRow) (key : Key) → IsRowOf chain.tables key row → HandsUpExactly chain.tables row key (entries history)
+  pub pdus : Carried chain.tables (entries history)
   pub reports : ReportsTruly chain.tables (entries history)
   pub stops : Stops (length texts) (entries history) stage chain used rest ending out
 

@@ -3,6 +3,7 @@ ghost use Rattle.player.specs.Foundations.{LineLaws, RunLaws};
 
 use book_law::{confirmed_numbers_are_told, hand_ups_are_told, senders_keep_the_book};
 use call_law::{chains_can_be_opened, runs_have_declared_tables, steps_can_be_carried_out};
+use carried_law::direct_runs_are_carried;
 use direct_run_law::the_book_is_kept_on_direct_ports;
 use heard_law::reports_are_true;
 use orderly_law::hand_ups_are_exact;
@@ -16,7 +17,7 @@ pub(crate) fn laws_of_lines()
 }
 
 /// What is proved of each run: it keeps the book of each bearer, which the ends of the bearer tell; it hands up what delivered
-/// PDUs complete; and its STATUS PDUs are true.
+/// PDUs complete; its data PDUs carry what its ends gave; and its STATUS PDUs are true.
 pub(crate) fn laws_of_runs()
     ensures { RunLaws }
 {
@@ -25,6 +26,7 @@ pub(crate) fn laws_of_runs()
     hand_ups_are_told();
     the_book_is_kept_on_direct_ports();
     hand_ups_are_exact();
+    direct_runs_are_carried();
     reports_are_true();
     chains_can_be_opened();
     runs_have_declared_tables();
