@@ -1,0 +1,29 @@
+-- What a line does to a chain is what steps of items do.
+use Rattle.std.specs.Prelude.{List}
+use Rattle.script_text.specs.declared.event.Event.{Event}
+use Rattle.script_text.specs.declared.line.Line.{Line}
+use Rattle.script_text.specs.declared.line.Line.TheVariants.{Deliver, Repeat, Lose, Stage, Grant, Expire, Push, Pull, Report}
+use Rattle.script_text.specs.declared.reply.Reply.{Reply}
+use Rattle.chain_model.specs.State.{Chain}
+use Rattle.chain_model.specs.Steps.{Does}
+use Rattle.item_chain.specs.View.{view}
+use Rattle.item_chain.specs.Stands.{Ghost, Stands, Refines}
+
+-- the lines of which it is proved
+abbrev pub IsItemLine : Line → Type 0
+IsItemLine (Deliver ticket) = Unit {0}
+IsItemLine (Repeat ticket) = Unit {0}
+IsItemLine (Lose ticket) = Unit {0}
+IsItemLine (Stage ticket) = Unit {0}
+IsItemLine (Grant port way octets) = Unit {0}
+IsItemLine (Expire port at timer) = Unit {0}
+IsItemLine (Push port) = Unit {0}
+IsItemLine (Pull port) = Unit {0}
+IsItemLine (Report key) = Unit {0}
+IsItemLine line = ⊥
+
+-- where a ghost stands for a chain, a line before the ends feed takes its items by steps to what stands for the chain behind it
+abbrev pub LinesGoByItemSteps : Type 0
+LinesGoByItemSteps = (g : Ghost) (old : Chain) → Stands g (view old) → (line : Line) (events : List Event) (reply : Reply) (new : Chain) → IsItemLine line
+    → Does old line events reply new
+    → Refines old.tables g (view new)

@@ -1,0 +1,13 @@
+// The laws of other crates on which those of the refinement stand.
+ghost use Rattle.item_chain.specs.Foundations.{PduLaws};
+
+use pdcp_pdu::{no_fault_where_read, one_reading, one_spelling_without_reserved_bits};
+
+/// What pdcp_pdu proves of how PDUs are read and spelt.
+pub(crate) fn laws_of_pdus()
+    ensures { PduLaws }
+{
+    one_reading();
+    no_fault_where_read();
+    one_spelling_without_reserved_bits();
+}

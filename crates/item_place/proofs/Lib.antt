@@ -1,0 +1,6 @@
+pub mod Pushed
+pub mod Boxes
+pub mod Moving
+pub mod Entering
+pub mod Leaving
+pub mod Completing
