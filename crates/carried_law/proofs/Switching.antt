@@ -37,7 +37,7 @@ use Rattle.chain_law.proofs.Nodes.{side_name}
 use Rattle.heard_law.proofs.Knowing.{Knows}
 
 -- a node's side behind an apply
-applied_side : (s : Settings) (remote : Remote) (goal : Goal) (epoch : ℕ) (n : Node) (q : PortName) (e : Entity) → entity_at (node_after s remote goal epoch n) q ≡ Some e
+pub applied_side : (s : Settings) (remote : Remote) (goal : Goal) (epoch : ℕ) (n : Node) (q : PortName) (e : Entity) → entity_at (node_after s remote goal epoch n) q ≡ Some e
     → (entity_at n q ≡ Some e) ⊎ ((is_of remote q ≡ true) × (size : SnSize) × (e ≡ new_entity s size epoch))
 applied_side s remote goal epoch n q e is = by (side_at n q) refl
   where

@@ -1,0 +1,4 @@
+pub mod Nodes
+pub mod Feeding
+pub mod Lines
+pub mod TheLaw
