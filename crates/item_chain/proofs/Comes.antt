@@ -1,6 +1,5 @@
 -- A PDU comes to its node: the lines deliver and repeat.
 use Rattle.std.proofs.Common.{◌≡◌, ℕ, Bool, true, false, cond, List, Option, Some, None, Result, refl, sym, ◌∙◌, ap, subst}
-use Rattle.std.proofs.lemmas.Bool.{false≢true}
 use Rattle.link_base.specs.declared.discard.Discard.{Discard}
 use Rattle.link_base.specs.declared.names.Drb.{Drb}
 use Rattle.link_base.specs.declared.names.PortName.{PortName}
@@ -8,7 +7,6 @@ use Rattle.link_base.specs.declared.names.PortName.TheVariants.{Direct, Pc5, Uu}
 use Rattle.link_base.specs.declared.names.Remote.{Remote}
 use Rattle.link_base.specs.declared.names.Way.{Way}
 use Rattle.link_base.specs.declared.names.Way.TheVariants.{Ul, Dl}
-use Rattle.bearer_map.specs.Contents.{Contents}
 use Rattle.rlc_model.specs.declared.hop.Pdu.{Pdu}
 use Rattle.rlc_model.specs.Hop.{on_air}
 use Rattle.rlc_model.specs.declared.transmitter.StatusHeard.TheVariants as told
@@ -23,7 +21,7 @@ use Rattle.node_model.specs.Hearing.{hear_refusal, Passes, HearsUnless, HearsPdu
 use Rattle.node_model.specs.Names.{NodeName, key_of, owner}
 use Rattle.node_model.specs.Routing.{Target}
 use Rattle.node_model.specs.State.{Node, side_at}
-use Rattle.chain_model.specs.Lines.{Comes, Delivers, hearer, is_handed_over, without}
+use Rattle.chain_model.specs.Lines.{Delivers, hearer, is_handed_over, without}
 use Rattle.chain_model.specs.State.{Chain, node_at, set_node}
 use Rattle.item_chain.specs.Foundations.{PduLaws}
 use Rattle.item_chain.specs.Stands.{Ghost, Stands, Refines}

@@ -3,7 +3,7 @@ use Rattle.std.proofs.Common.{◌≡◌, ◌⊎◌, ◌↔◌, inl, inr, ℕ, ze
 use Rattle.std.specs.Option.{unwrap_or}
 use Rattle.std.specs.List.{slice_get, slice_index_or}
 use Rattle.std.proofs.lemmas.Bool.{cases_eq, eqb-true, eq-eqb}
-use Rattle.std.proofs.lemmas.Option.{none-some, same_Some}
+use Rattle.std.proofs.lemmas.Option.{same_Some}
 use Rattle.link_base.specs.declared.names.Drb.{Drb}
 use Rattle.link_base.specs.declared.names.Key.{Key}
 use Rattle.link_base.specs.declared.names.PortName.TheVariants.{Direct}
@@ -31,7 +31,6 @@ use Rattle.node_model.specs.Names.{NodeName, is_node, is_key, owner, source}
 use Rattle.node_model.specs.State.{Outgoing, Node, PortSide, side_at, outgoing_at, outgoing, no_outgoing, set_outgoing}
 use Rattle.node_model.specs.Tables.{first_count}
 use Rattle.chain_model.specs.State.{Chain, node_at, set_node}
-use Rattle.chain_law.proofs.Chains.{node_name}
 use Rattle.item_law.specs.State.{ToDirect, Sdu, Content, Data, Report, Item, Spot, Arrived, is_number, put, way_with, way_of}
 use Rattle.item_law.specs.State.{Chain as ItemChain, Sender as ItemSender}
 use Rattle.item_law.specs.Steps.{confirm_direct}

@@ -1,12 +1,9 @@
 -- What completes on a direct port arrives for its key.
-use Rattle.std.proofs.Common.{◌≡◌, ℕ, Bool, List, Some, refl, sym, ◌∙◌, ap, subst}
-use Rattle.link_base.specs.declared.names.Chan.{Chan}
+use Rattle.std.proofs.Common.{◌≡◌, ℕ, List, Some, refl, sym, ◌∙◌, ap, subst}
 use Rattle.link_base.specs.declared.names.Drb.{Drb}
 use Rattle.link_base.specs.declared.names.Goal.{Goal}
-use Rattle.link_base.specs.declared.names.Key.{Key}
-use Rattle.link_base.specs.declared.names.Node.{Node as NodeKind}
 use Rattle.link_base.specs.declared.names.PortName.{PortName}
-use Rattle.link_base.specs.declared.names.PortName.TheVariants.{Direct, Pc5, Uu}
+use Rattle.link_base.specs.declared.names.PortName.TheVariants.{Direct}
 use Rattle.link_base.specs.declared.names.Remote.{Remote}
 use Rattle.link_base.specs.declared.names.Way.{Way}
 use Rattle.link_base.specs.declared.names.Way.TheVariants.{Ul, Dl}

@@ -28,4 +28,9 @@ pub mod EndHears
 pub mod Directs
 pub mod Confirms
 pub mod Comes
+pub mod OpenedNodes
+pub mod OpenedEnds
+pub mod Opened
+pub mod Submits
+pub mod Gives
 pub mod TheLaws

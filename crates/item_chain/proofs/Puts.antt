@@ -1,5 +1,5 @@
 -- Tables with one value changed.
-use Rattle.std.proofs.Common.{◌≡◌, ◌⊎◌, inl, inr, Bool, true, false, ◌&&◌, refl, sym, subst}
+use Rattle.std.proofs.Common.{◌≡◌, ◌⊎◌, inl, inr, Bool, true, ◌&&◌, refl, sym, subst}
 use Rattle.std.proofs.lemmas.Bool.{cases_Bool, and_parts, and_from, cond-true, cond-false}
 use Rattle.link_base.specs.declared.names.Side.{Side}
 use Rattle.link_base.specs.declared.names.Side.TheVariants.{Low, High}

@@ -11,7 +11,6 @@ use Rattle.link_base.specs.declared.names.Side.TheVariants.{Low, High}
 use Rattle.link_base.specs.declared.names.Way.TheVariants.{Ul, Dl}
 use Rattle.bearer_map.specs.declared.routes.Route.{Route}
 use Rattle.rlc_model.specs.declared.hop.Pdu.{Pdu}
-use Rattle.rlc_model.specs.declared.receiver.Heard.TheVariants as heard
 use Rattle.rlc_model.specs.declared.transmitter.StatusHeard.TheVariants as told
 use Rattle.rlc_model.specs.Hop.{on_air}
 use Rattle.rlc_model.specs.Sides.{Entity}

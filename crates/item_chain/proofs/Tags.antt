@@ -1,7 +1,7 @@
 -- The tags of SDUs stay until they are confirmed, and what fits a direct port does so behind each change.
-use Rattle.std.proofs.Common.{◌≡◌, inl, inr, ℕ, ◌<◌, Bool, true, false, List, Option, Some, None, refl, sym, ◌∙◌, ap, subst}
+use Rattle.std.proofs.Common.{◌≡◌, inl, inr, ℕ, true, List, Option, Some, refl, sym, ◌∙◌, ap, subst}
 use Rattle.std.specs.List.{slice_get}
-use Rattle.std.proofs.lemmas.Bool.{cases_Bool, cases_eq, false≢true}
+use Rattle.std.proofs.lemmas.Bool.{cases_Bool, cases_eq}
 use Rattle.std.proofs.lemmas.Option.{none-some, same_Some}
 use Rattle.link_base.specs.declared.names.PortName.{PortName}
 use Rattle.link_base.specs.declared.names.PortName.TheVariants.{Direct, Pc5, Uu}
@@ -16,11 +16,11 @@ use Rattle.rlc_model.specs.Retransmission.{RetransmitsLowest, stays, retransmits
 use Rattle.rlc_model.specs.Tx.{Tx, Kept, kept_at, tx_next_ack, Sends}
 use Rattle.rlc_law.specs.Hop.{Hop, Event, Give, Grant, GrantStatus, Deliver, DeliverStatus, ExpirePoll, ExpireReassembly, ExpireProhibit, Happens, sends, makes_status, delivers, acknowledges, expires_poll, expires_reassembly, expires_prohibit}
 use Rattle.rlc_law.proofs.Grant.{next_was}
-use Rattle.item_law.specs.State.{ToDirect, Item, Spot, Arrived, is_number, put}
+use Rattle.item_law.specs.State.{Item, Spot, Arrived, is_number, put}
 use Rattle.item_law.proofs.base.Puts.{of_number, put_same, put_other}
 use Rattle.item_place.proofs.Boxes.{at_log}
 use Rattle.item_place.specs.Places.{Station, Box, at, leave, IsSpot, first, slot, queue, second}
-use Rattle.item_chain.specs.Stands.{IsTag, DirectFits, FitsDirect}
+use Rattle.item_chain.specs.Stands.{IsTag, FitsDirect}
 
 -- each SDU kept was kept before under its tag
 abbrev pub KeepsTags : Tx → Tx → Type 0

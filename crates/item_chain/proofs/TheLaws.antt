@@ -1,18 +1,21 @@
 -- The laws of the refinement.
 use Rattle.std.proofs.Common.{refl}
-use Rattle.script_text.specs.declared.line.Line.TheVariants.{Grant, Deliver, Repeat, Lose, Stage, Expire, Push, Pull, Report}
+use Rattle.script_text.specs.declared.line.Line.TheVariants.{Grant, Submit, Deliver, Repeat, Lose, Stage, Expire, Push, Pull, Report}
 use Rattle.rlc_model.specs.Hop.{on_air}
 use Rattle.chain_model.specs.Lines.{stage_refusal, without}
 use Rattle.item_chain.specs.Foundations.{PduLaws}
-use Rattle.item_chain.specs.Laws.{LinesGoByItemSteps}
+use Rattle.item_chain.specs.Laws.{LinesGoByItemSteps, OpenedChainsStand}
 use Rattle.item_chain.proofs.Calls.{grant_refines, expire_refines}
 use Rattle.item_chain.proofs.Tickets.{loses_refines, stage_refines}
 use Rattle.item_chain.proofs.Pushes.{push_refines}
 use Rattle.item_chain.proofs.Pulls.{pull_refines}
 use Rattle.item_chain.proofs.Comes.{delivers, goes_without}
+use Rattle.item_chain.proofs.Opened.{first_ghost, first_opens, opened_stands}
+use Rattle.item_chain.proofs.Submits.{submit_refines}
 use Rattle.item_chain.proofs.Wants.{wants_refines}
 
 pub lines_go_by_item_steps : PduLaws → LinesGoByItemSteps
+lines_go_by_item_steps l g old st (Submit key sdu) events reply new is does = submit_refines g old st key sdu events reply new does
 lines_go_by_item_steps l g old st (Deliver ticket) events reply new is does = delivers l g old st ticket (on_air old.air ticket) refl events reply new (without ticket)
     (goes_without l g old st ticket) does
 lines_go_by_item_steps l g old st (Repeat ticket) events reply new is does = delivers l g old st ticket (on_air old.air ticket) refl events reply new (λ c. c) (λ c r. r) does
@@ -24,3 +27,6 @@ lines_go_by_item_steps l g old st (Push port) events reply new is does = push_re
 lines_go_by_item_steps l g old st (Pull port) events reply new is does = pull_refines g old st port events reply new does
 lines_go_by_item_steps l g old st (Report key) events reply new is does = wants_refines g old st key events reply new does
 lines_go_by_item_steps l g old st line events reply new is does = absurd is
+
+pub opened_chains_stand : OpenedChainsStand
+opened_chains_stand t good are = (first_ghost t, first_opens t, opened_stands t good are)

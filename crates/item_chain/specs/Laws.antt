@@ -1,16 +1,20 @@
 -- What a line does to a chain is what steps of items do.
 use Rattle.std.specs.Prelude.{List}
+use Rattle.bearer_map.specs.Contents.{Contents}
 use Rattle.script_text.specs.declared.event.Event.{Event}
 use Rattle.script_text.specs.declared.line.Line.{Line}
-use Rattle.script_text.specs.declared.line.Line.TheVariants.{Deliver, Repeat, Lose, Stage, Grant, Expire, Push, Pull, Report}
+use Rattle.script_text.specs.declared.line.Line.TheVariants.{Submit, Deliver, Repeat, Lose, Stage, Grant, Expire, Push, Pull, Report}
 use Rattle.script_text.specs.declared.reply.Reply.{Reply}
-use Rattle.chain_model.specs.State.{Chain}
+use Rattle.chain_model.specs.State.{Chain, opened}
 use Rattle.chain_model.specs.Steps.{Does}
+use Rattle.book_law.specs.Past.{AreTables}
+use Rattle.item_law.specs.World.{Opens}
 use Rattle.item_chain.specs.View.{view}
-use Rattle.item_chain.specs.Stands.{Ghost, Stands, Refines}
+use Rattle.item_chain.specs.Stands.{item_tables, TablesGood, Ghost, Stands, Refines}
 
 -- the lines of which it is proved
 abbrev pub IsItemLine : Line → Type 0
+IsItemLine (Submit key sdu) = Unit {0}
 IsItemLine (Deliver ticket) = Unit {0}
 IsItemLine (Repeat ticket) = Unit {0}
 IsItemLine (Lose ticket) = Unit {0}
@@ -27,3 +31,7 @@ abbrev pub LinesGoByItemSteps : Type 0
 LinesGoByItemSteps = (g : Ghost) (old : Chain) → Stands g (view old) → (line : Line) (events : List Event) (reply : Reply) (new : Chain) → IsItemLine line
     → Does old line events reply new
     → Refines old.tables g (view new)
+
+-- where tables are such as are asked for, a ghost without items stands for the chain that they open
+abbrev pub OpenedChainsStand : Type 0
+OpenedChainsStand = (t : Contents) → TablesGood t → AreTables t → (g : Ghost) × Opens (item_tables t) g.chain × Stands g (view (opened t))

@@ -73,6 +73,7 @@ item_tables t = record {
 pub record TablesGood (t : Contents) : Type 0 where
   pub fit : TablesFit (item_tables t)
   pub drbs : (remote : Remote) (drb : Drb) (row : BearerRow) → row_of t remote drb ≡ Some row → (1 ≤ drb.0) × (drb.0 ≤ 32)
+  pub firsts : (remote : Remote) (drb : Drb) (row : BearerRow) → row_of t remote drb ≡ Some row → (way : Way) → first_count row way ≤ COUNT_END
   pub maps : (row : MapRow) → Contains t.maps row → map_row t row.remote row.drb ≡ Some row
 
 -- the path that a local identity stands for, or none

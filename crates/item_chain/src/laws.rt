@@ -1,5 +1,5 @@
 // The laws of the refinement.
-ghost use Rattle.item_chain.specs.Laws.{LinesGoByItemSteps};
+ghost use Rattle.item_chain.specs.Laws.{LinesGoByItemSteps, OpenedChainsStand};
 
 use crate::foundations::laws_of_pdus;
 
@@ -10,3 +10,9 @@ pub fn lines_go_by_item_steps()
 {
     laws_of_pdus();
 }
+
+/// A law: where each bearer of the tables has a good identity, first COUNTs below the end and at most one row of channels, and no
+/// two remotes begin with one identity, a ghost without items stands for the chain that the tables open.
+pub fn opened_chains_stand()
+    ensures { OpenedChainsStand }
+{}

@@ -11,4 +11,4 @@
 mod foundations;
 mod laws;
 
-pub use laws::lines_go_by_item_steps;
+pub use laws::{lines_go_by_item_steps, opened_chains_stand};

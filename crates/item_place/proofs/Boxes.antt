@@ -60,7 +60,8 @@ at_log b k n e = elim (cases_Bool (b.left k)) [
 pub within : (b : Box) (k n : ℕ) → at b k ≡ Some n → k < length b.log
 within b k n e = slice_get_within b.log k n (at_log b k n e)
 
-module _ (box : Station → Box) (fresh : (a : Station) (k : ℕ) → length (box a).log ≤ k → (box a).left k ≡ false) (a : Station) (k : ℕ) (b : Station) (n : ℕ) (has : at (box a) k ≡ Some n) where
+module _ (box : Station → Box) (fresh : (a : Station) (k : ℕ) → length (box a).log ≤ k → (box a).left k ≡ false) (a : Station) (k : ℕ) (b : Station) (n : ℕ)
+    (has : at (box a) k ≡ Some n) where
   abbrev pub mid : Station → Box
   mid = put is_station box a (leave (box a) k)
 
@@ -75,7 +76,8 @@ module _ (box : Station → Box) (fresh : (a : Station) (k : ℕ) → length (bo
 
   mid_other : (c : Station) (j : ℕ) → ((c ≡ a) × (j ≡ k) → ⊥) → at (mid c) j ≡ at (box c) j
   mid_other c j ne = elim (cases_station c a) [
-    | inl e ↦ ap (λ (c : Station). at (mid c) j) e ∙ ap (λ (x : Box). at x j) (put_same of_station box a (leave (box a) k)) ∙ left_other (box a) k j (λ same. ne (e, same)) ∙ ap (λ (c : Station). at (box c) j) (sym e)
+    | inl e ↦ ap (λ (c : Station). at (mid c) j) e ∙ ap (λ (x : Box). at x j) (put_same of_station box a (leave (box a) k)) ∙ left_other (box a) k j (λ same. ne (e, same))
+        ∙ ap (λ (c : Station). at (box c) j) (sym e)
     | inr ne' ↦ ap (λ (x : Box). at x j) (put_other of_station box a (leave (box a) k) c ne')
   ]
 
@@ -99,7 +101,8 @@ module _ (box : Station → Box) (fresh : (a : Station) (k : ℕ) → length (bo
 
   mid_fresh : (c : Station) (j : ℕ) → length (mid c).log ≤ j → (mid c).left j ≡ false
   mid_fresh c j le = elim (cases_station c a) [
-    | inl e ↦ ap (λ (c : Station). (mid c).left j) e ∙ ap (λ (x : Box). x.left j) (put_same of_station box a (leave (box a) k)) ∙ put_other of_number (box a).left k true j (λ same. absurd (omega (arith, within (box a) k n has, long j le e, same))) ∙ fresh a j (long j le e)
+    | inl e ↦ ap (λ (c : Station). (mid c).left j) e ∙ ap (λ (x : Box). x.left j) (put_same of_station box a (leave (box a) k))
+        ∙ put_other of_number (box a).left k true j (λ same. absurd (omega (arith, within (box a) k n has, long j le e, same))) ∙ fresh a j (long j le e)
     | inr ne ↦ ap (λ (x : Box). x.left j) (put_other of_station box a (leave (box a) k) c ne) ∙ fresh c j (omega (arith, le, ap (λ (xs : List ℕ). length xs) (mid_log c)))
   ]
     where
@@ -111,7 +114,8 @@ module _ (box : Station → Box) (fresh : (a : Station) (k : ℕ) → length (bo
 
   after_other : (c : Station) (j : ℕ) → ((c ≡ b) × (j ≡ length (mid b).log) → ⊥) → at (after c) j ≡ at (mid c) j
   after_other c j ne = elim (cases_station c b) [
-    | inl e ↦ ap (λ (c : Station). at (after c) j) e ∙ ap (λ (x : Box). at x j) (put_same of_station mid b (enter (mid b) n)) ∙ entered_other (mid b) n j (λ same. ne (e, same)) ∙ ap (λ (c : Station). at (mid c) j) (sym e)
+    | inl e ↦ ap (λ (c : Station). at (after c) j) e ∙ ap (λ (x : Box). at x j) (put_same of_station mid b (enter (mid b) n)) ∙ entered_other (mid b) n j (λ same. ne (e, same))
+        ∙ ap (λ (c : Station). at (mid c) j) (sym e)
     | inr ne' ↦ ap (λ (x : Box). at x j) (put_other of_station mid b (enter (mid b) n) c ne')
   ]
 
@@ -140,9 +144,12 @@ module _ (box : Station → Box) (fresh : (a : Station) (k : ℕ) → length (bo
   pub after_fresh : (c : Station) (j : ℕ) → length (after c).log ≤ j → (after c).left j ≡ false
   after_fresh c j le = elim (cases_station c b) [
     | inl e ↦
-        let long : length (enter (mid b) n).log ≤ j = omega (arith, le, ap (λ (c : Station). length (after c).log) e, ap (λ (x : Box). length x.log) (put_same of_station mid b (enter (mid b) n))) in
-        ap (λ (c : Station). (after c).left j) e ∙ ap (λ (x : Box). x.left j) (put_same of_station mid b (enter (mid b) n)) ∙ mid_fresh b j (omega (arith, long, length_push (mid b).log n))
-    | inr ne ↦ ap (λ (x : Box). x.left j) (put_other of_station mid b (enter (mid b) n) c ne) ∙ mid_fresh c j (omega (arith, le, ap (λ (x : Box). length x.log) (put_other of_station mid b (enter (mid b) n) c ne)))
+        let long : length (enter (mid b) n).log ≤ j =
+        omega (arith, le, ap (λ (c : Station). length (after c).log) e, ap (λ (x : Box). length x.log) (put_same of_station mid b (enter (mid b) n))) in
+        ap (λ (c : Station). (after c).left j) e ∙ ap (λ (x : Box). x.left j) (put_same of_station mid b (enter (mid b) n))
+        ∙ mid_fresh b j (omega (arith, long, length_push (mid b).log n))
+    | inr ne ↦ ap (λ (x : Box). x.left j) (put_other of_station mid b (enter (mid b) n) c ne)
+        ∙ mid_fresh c j (omega (arith, le, ap (λ (x : Box). length x.log) (put_other of_station mid b (enter (mid b) n) c ne)))
   ]
 
   -- what came anywhere came there before, or is the item at its new place

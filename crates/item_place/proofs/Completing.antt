@@ -15,7 +15,8 @@ use Rattle.item_place.specs.Places.{Box, at, leave}
 use Rattle.item_place.specs.HopFits.{HopFits}
 
 -- A delivery that completes the number x, in a hop that a run comes to: the box has an item there, the SDU is its spelling, and the item leaves
-module _ (law : CompletesAsGiven) (spell : ℕ → List ℕ) (h new : Hop) (b : Box) (reaches : Reaches new) (fit : HopFits spell h b) (d : Data) (x : ℕ) (sdu : List ℕ) (r : Rx) (hears : Hears h.rx d.view (Complete x sdu) r)
+module _ (law : CompletesAsGiven) (spell : ℕ → List ℕ) (h new : Hop) (b : Box) (reaches : Reaches new) (fit : HopFits spell h b) (d : Data) (x : ℕ) (sdu : List ℕ) (r : Rx)
+    (hears : Hears h.rx d.view (Complete x sdu) r)
     (is : new ≡ record h { rx = r; completed = completed_after (Complete x sdu) h.completed; heard = d ∷ h.heard }) where
   up_has : Contains new.completed (record { number = x; sdu = sdu })
   up_has = subst (λ (u : Hop). Contains u.completed (record { number = x; sdu = sdu })) (sym is) (contains_here (record { number = x; sdu = sdu }) h.completed)
@@ -40,7 +41,11 @@ module _ (law : CompletesAsGiven) (spell : ℕ → List ℕ) (h new : Hop) (b : 
   left_after : (k : ℕ) → put is_number b.left x true k ≡ true ↔ got r k ≡ Done
   left_after k = elim (cases_eq k x) [
     | inl e ↦ (λ l. ap (got r) e ∙ hears.3.enters.this, λ g. ap (put is_number b.left x true) e ∙ put_same of_number b.left x true)
-    | inr ne ↦ (λ l. hears.3.enters.others k ne ∙ (fit.left k).0 (sym (put_other of_number b.left x true k ne) ∙ l), λ g. put_other of_number b.left x true k ne ∙ (fit.left k).1 (sym (hears.3.enters.others k ne) ∙ g))
+    | inr ne ↦ (
+      λ l. hears.3.enters.others k ne ∙ (fit.left k).0 (sym (put_other of_number b.left x true k ne) ∙ l),
+      λ g. put_other of_number b.left x true k ne
+          ∙ (fit.left k).1 (sym (hears.3.enters.others k ne) ∙ g),
+    )
   ]
 
   pub leaves : HopFits spell new (leave b x)

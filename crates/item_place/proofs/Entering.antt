@@ -35,12 +35,14 @@ module _ (t : Contents) (m : Layout) (items : ℕ → Option Item) (spot : ℕ �
   enters_keeps : (c : Station) (j l : ℕ) → at (m.box c) j ≡ Some l → at (box c) j ≡ Some l
   enters_keeps c j l e = elim (cases_station c B) [
     | inl same ↦ ap (λ (b : Box). at b j) (ap box same ∙ put_same of_station m.box B (enter (m.box B) n))
-        ∙ entered_other (m.box B) n j (λ at_end. absurd (omega (arith, at_end, within (m.box c) j l e, ap (λ (c : Station). length (m.box c).log) same))) ∙ ap (λ (c : Station). at (m.box c) j) (sym same) ∙ e
+        ∙ entered_other (m.box B) n j (λ at_end. absurd (omega (arith, at_end, within (m.box c) j l e, ap (λ (c : Station). length (m.box c).log) same)))
+        ∙ ap (λ (c : Station). at (m.box c) j) (sym same) ∙ e
     | inr ne ↦ ap (λ (b : Box). at b j) (put_other of_station m.box B (enter (m.box B) n) c ne) ∙ e
   ]
 
   enters_new : at (box B) (length (m.box B).log) ≡ Some n
-  enters_new = ap (λ (b : Box). at b (length (m.box B).log)) (put_same of_station m.box B (enter (m.box B) n)) ∙ entered_at (m.box B) n (fit.fresh B (length (m.box B).log) (omega arith))
+  enters_new = ap (λ (b : Box). at b (length (m.box B).log)) (put_same of_station m.box B (enter (m.box B) n))
+      ∙ entered_at (m.box B) n (fit.fresh B (length (m.box B).log) (omega arith))
 
   pub not_new : (c : Station) (j l : ℕ) → at (m.box c) j ≡ Some l → l ≡ n → ⊥
   not_new c j l e same = let was = fit.stands c j l e in none-some was.0 (sym free ∙ ap items (sym same) ∙ was.1)
@@ -58,7 +60,12 @@ module _ (t : Contents) (m : Layout) (items : ℕ → Option Item) (spot : ℕ �
       | inr ne ↦ put_other of_number items n (Some i) l ne ∙ fit.has l ∙ sym (push_old m.items i l ne)
     ];
     stands = λ c j l e. elim (enters_was c j l e) [
-      | inl new ↦ (i, ap (put is_number items n (Some i)) new.2 ∙ put_same of_number items n (Some i), subst (λ (c : Station). IsSpot t i (put is_number spot n OnFirstHop l) c) (sym new.0) (subst (λ (x : Spot). IsSpot t i x B) (sym (ap (put is_number spot n OnFirstHop) new.2 ∙ put_same of_number spot n OnFirstHop)) here))
+      | inl new ↦ (
+        i,
+        ap (put is_number items n (Some i)) new.2 ∙ put_same of_number items n (Some i),
+        subst (λ (c : Station). IsSpot t i (put is_number spot n OnFirstHop l) c)
+            (sym new.0) (subst (λ (x : Spot). IsSpot t i x B) (sym (ap (put is_number spot n OnFirstHop) new.2 ∙ put_same of_number spot n OnFirstHop)) here),
+      )
       | inr old ↦
           let was = fit.stands c j l old in
           let ne = not_new c j l old in

@@ -16,7 +16,8 @@ module _ (t : Contents) (m : Layout) (items : ℕ → Option Item) (spot : ℕ �
   pub gone_was : (c : Station) (j l : ℕ) → at (box c) j ≡ Some l → ((c ≡ A) × (j ≡ k) → ⊥) × (at (m.box c) j ≡ Some l)
   gone_was c j l e = elim (cases_station c A) [
     | inl same ↦
-        let here : at (leave (m.box A) k) j ≡ Some l = sym (ap (λ (b : Box). at b j) (put_same of_station m.box A (leave (m.box A) k))) ∙ ap (λ (c : Station). at (box c) j) (sym same) ∙ e in
+        let here : at (leave (m.box A) k) j ≡ Some l = sym (ap (λ (b : Box). at b j) (put_same of_station m.box A (leave (m.box A) k)))
+        ∙ ap (λ (c : Station). at (box c) j) (sym same) ∙ e in
         elim (cases_eq j k) [
           | inl jk ↦ absurd (none-some l (sym (ap (at (leave (m.box A) k)) jk ∙ left_at (m.box A) k) ∙ here))
           | inr ne ↦ ((λ p. ne p.1), ap (λ (c : Station). at (m.box c) j) same ∙ sym (left_other (m.box A) k j ne) ∙ here)
@@ -26,7 +27,8 @@ module _ (t : Contents) (m : Layout) (items : ℕ → Option Item) (spot : ℕ �
 
   gone_keeps : (c : Station) (j l : ℕ) → ((c ≡ A) × (j ≡ k) → ⊥) → at (m.box c) j ≡ Some l → at (box c) j ≡ Some l
   gone_keeps c j l apart e = elim (cases_station c A) [
-    | inl same ↦ ap (λ (c : Station). at (box c) j) same ∙ ap (λ (b : Box). at b j) (put_same of_station m.box A (leave (m.box A) k)) ∙ left_other (m.box A) k j (λ jk. apart (same, jk)) ∙ ap (λ (c : Station). at (m.box c) j) (sym same) ∙ e
+    | inl same ↦ ap (λ (c : Station). at (box c) j) same ∙ ap (λ (b : Box). at b j) (put_same of_station m.box A (leave (m.box A) k))
+        ∙ left_other (m.box A) k j (λ jk. apart (same, jk)) ∙ ap (λ (c : Station). at (m.box c) j) (sym same) ∙ e
     | inr ne ↦ ap (λ (b : Box). at b j) (put_other of_station m.box A (leave (m.box A) k) c ne) ∙ e
   ]
 

@@ -11,18 +11,24 @@ use Rattle.item_place.specs.Places.{Station, Link, Ingress, Egress, at, Layout, 
 use Rattle.item_place.proofs.Boxes.{mid, after, at_end, after_was, after_keeps, after_fresh, after_log, at_log}
 
 -- an item moves: the layout then stands for the items with its new spot
-module _ (t : Contents) (m : Layout) (items : ℕ → Option Item) (spot : ℕ → Spot) (fit : StandsFor t m items spot) (a : Station) (k : ℕ) (b : Station) (n : ℕ) (has : at (m.box a) k ≡ Some n) (x : Spot) where
+module _ (t : Contents) (m : Layout) (items : ℕ → Option Item) (spot : ℕ → Spot) (fit : StandsFor t m items spot) (a : Station) (k : ℕ) (b : Station) (n : ℕ)
+    (has : at (m.box a) k ≡ Some n) (x : Spot) where
   abbrev next : ℕ → Spot
   next = put is_number spot n x
 
   old : (c : Station) (j l : ℕ) → ((c ≡ a) × (j ≡ k) → ⊥) → at (m.box c) j ≡ Some l → l ≡ n → ⊥
   old c j l ne e same = ne (fit.once c a j k n (e ∙ ap (λ (n : ℕ). Some n) same) has)
 
-  stands : ((i : Item) → items n ≡ Some i → IsSpot t i x b) → (c : Station) (j l : ℕ) → at (after m.box fit.fresh a k b n has c) j ≡ Some l → (i : Item) × (items l ≡ Some i) × IsSpot t i (next l) c
+  stands : ((i : Item) → items n ≡ Some i → IsSpot t i x b) → (c : Station) (j l : ℕ) → at (after m.box fit.fresh a k b n has c) j ≡ Some l → (i : Item) × (items l ≡ Some i)
+      × IsSpot t i (next l) c
   stands here c j l e = elim (after_was m.box fit.fresh a k b n has c j l e) [
     | inl p ↦
-        let was = fit.stands a k n has in
-        (was.0, ap items p.2 ∙ was.1, subst (λ (l : ℕ). IsSpot t was.0 (next l) c) (sym p.2) (subst (λ (y : Spot). IsSpot t was.0 y c) (sym (put_same of_number spot n x)) (subst (IsSpot t was.0 x) (sym p.0) (here was.0 was.1))))
+        let was = fit.stands a k n has in (
+          was.0,
+          ap items p.2 ∙ was.1,
+          subst (λ (l : ℕ). IsSpot t was.0 (next l) c) (sym p.2)
+              (subst (λ (y : Spot). IsSpot t was.0 y c) (sym (put_same of_number spot n x)) (subst (IsSpot t was.0 x) (sym p.0) (here was.0 was.1))),
+        )
     | inr p ↦
         let was = fit.stands c j l p.1 in
         (was.0, was.1, subst (λ (y : Spot). IsSpot t was.0 y c) (sym (put_other of_number spot n x l (old c j l p.0 p.1))) was.2)

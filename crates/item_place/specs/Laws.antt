@@ -30,6 +30,7 @@ ItemsLeave = (t : Contents) (l : Layout) (items : ℕ → Option Item) (spot : �
 
 -- a number that completes at the receiver of a hop is that of an item that stands there, and the SDU has its octets; and then it has left
 abbrev pub HopsComplete : Type 0
-HopsComplete = (spell : ℕ → List ℕ) (old new : Hop) (b : Box) → Reaches new → HopFits spell old b → (d : Data) (x : ℕ) (sdu : List ℕ) (r : Rx) → Hears old.rx d.view (Complete x sdu) r
+HopsComplete = (spell : ℕ → List ℕ) (old new : Hop) (b : Box) → Reaches new → HopFits spell old b → (d : Data) (x : ℕ) (sdu : List ℕ) (r : Rx)
+    → Hears old.rx d.view (Complete x sdu) r
     → new ≡ record old { rx = r; completed = completed_after (Complete x sdu) old.completed; heard = d ∷ old.heard }
     → ((n : ℕ) × (at b x ≡ Some n) × (sdu ≡ spell n)) × HopFits spell new (leave b x)
