@@ -32,5 +32,4 @@ pub mod OpenedNodes
 pub mod OpenedEnds
 pub mod Opened
 pub mod Submits
-pub mod Gives
 pub mod TheLaws
