@@ -14,6 +14,7 @@ use Rattle.rlc_model.specs.Retransmission.{HearsStatus}
 use Rattle.rlc_model.specs.Rx.{Rx, Hears, IsToBePlaced, status_due}
 use Rattle.rlc_model.specs.Calls.{GrantTakesMemory, StatusTakesMemory}
 use Rattle.rlc_model.specs.Hop.{IsControl}
+use Rattle.rlc_am_rx.specs.Hearing.{HasSduLength}
 use Rattle.rlc_am_rx.specs.StatusMaking.{IsTrueStatusOf}
 use Rattle.rlc_model.specs.Made.{Makes, WritesStatus}
 
@@ -60,3 +61,10 @@ HearsControl tx bytes (heard.Amd answer) tx' = ⊥
 HearsControl tx bytes (heard.Status answer) tx' = (status : Status) × IsStatus tx.size status bytes × HearsStatus tx status answer tx'
 HearsControl tx bytes (heard.BadAmd fault) tx' = ⊥
 HearsControl tx bytes (heard.BadStatus fault) tx' = (fault ≢ Memory) × IsStatusFault tx.size bytes fault × (tx' ≡ tx)
+
+-- an SDU that octets made complete has a byte, and isn't longer than the longest SDU
+abbrev pub CompletesSdu : HopHeard → Type 0
+CompletesSdu (heard.Amd answer) = HasSduLength answer
+CompletesSdu (heard.Status answer) = Unit {0}
+CompletesSdu (heard.BadAmd fault) = Unit {0}
+CompletesSdu (heard.BadStatus fault) = Unit {0}

@@ -1,12 +1,12 @@
 // What one side of a port, a transmitter and a receiver together, sends and hears.
 ghost use Rattle.std.specs.Prelude.{◌≡◌, ◌<◌, ◌≤◌, ◌^◌, ◌↔◌, true, IfOk, OnErr, IsTrue};
-ghost use Rattle.rlc_model.specs.Hop.{GrantsHop, HearsHop, IsControl};
+ghost use Rattle.rlc_model.specs.Hop.{GrantsHop, HearsHop, ExpiresHop, IsControl};
 ghost use Rattle.rlc_model.specs.Rx.{status_due, rx_next};
 ghost use Rattle.rlc_model.specs.Tx.{tx_next};
-ghost use Rattle.rlc_hop.specs.Side.{SendsStatus, SendsTruly, IsToSend, HearsData, HearsControl, ControlTakesMemory, DataTakesMemory, HearsNews};
+ghost use Rattle.rlc_hop.specs.Side.{SendsStatus, SendsTruly, IsToSend, HearsData, HearsControl, ControlTakesMemory, DataTakesMemory, HearsNews, CompletesSdu};
 
 use crate::{HopGrant, HopHeard};
-use link_base::Memory;
+use link_base::{Expired, Memory, Timer};
 use rlc_am_rx::AmRx;
 use rlc_am_tx::AmTx;
 use rlc_model::{Made, TxGrant};
@@ -70,8 +70,9 @@ fn send_status(alloc: Global, rx: &mut AmRx, n: u32) -> Result<HopGrant, Memory>
 /// Hears octets: the transmitter hears a STATUS PDU where there is an octet whose D/C is 0, else the receiver a data PDU
 /// (TS 38.322 clauses 5.2.3.2.2, 5.3.2 and 6.2.3.6). It needs TX_Next below 2^62 and RX_Next at most 2^62.
 ///
-/// An `Err` is want of memory. It comes only where the octets are a STATUS PDU with an element, or one that confirms an SDU or
-/// makes bytes pending, or a data PDU that the receiver is to place. The transmitter and the receiver are then as they were.
+/// An SDU that they make complete has at least one byte, and no more than the longest SDU. An `Err` is want of memory. It
+/// comes only where the octets are a STATUS PDU with an element, or one that confirms an SDU or makes bytes pending, or a data
+/// PDU that the receiver is to place. The transmitter and the receiver are then as they were.
 pub fn hop_hear(
     alloc: Global,
     tx: &mut AmTx,
@@ -81,6 +82,7 @@ pub fn hop_hear(
     requires sent { tx_next tx.old < 2 ^ 62 }
     requires heard { rx_next rx.old ≤ 2 ^ 62 }
     ensures ok { IfOk result (λ answer. HearsHop tx.old rx.old bytes.now answer tx.new rx.new) }
+    ensures length { IfOk result CompletesSdu }
     ensures err { OnErr result ((tx.new ≡ tx.old) × (rx.new ≡ rx.old)) }
     ensures memory { OnErr result (HearsNews tx.old rx.old bytes.now) }
 {
@@ -105,6 +107,7 @@ fn is_control(bytes: &[u8]) -> bool
 fn hear_control(alloc: Global, tx: &mut AmTx, bytes: &[u8]) -> Result<HopHeard, Memory>
     requires { tx_next tx.old < 2 ^ 62 }
     ensures ok { IfOk result (λ answer. HearsControl tx.old bytes.now answer tx.new) }
+    ensures length { IfOk result CompletesSdu }
     ensures err { OnErr result (tx.new ≡ tx.old) }
     ensures memory { OnErr result (ControlTakesMemory tx.old bytes.now) }
 {
@@ -122,6 +125,7 @@ fn hear_control(alloc: Global, tx: &mut AmTx, bytes: &[u8]) -> Result<HopHeard, 
 fn hear_data(rx: &mut AmRx, bytes: &[u8]) -> Result<HopHeard, Memory>
     requires { rx_next rx.old ≤ 2 ^ 62 }
     ensures ok { IfOk result (λ answer. HearsData rx.old bytes.now answer rx.new) }
+    ensures length { IfOk result CompletesSdu }
     ensures err { OnErr result (rx.new ≡ rx.old) }
     ensures memory { OnErr result (DataTakesMemory rx.old bytes.now) }
 {
@@ -131,5 +135,17 @@ fn hear_data(rx: &mut AmRx, bytes: &[u8]) -> Result<HopHeard, Memory>
             Ok(HopHeard::Amd(answer))
         }
         Err(fault) => Ok(HopHeard::BadAmd(fault)),
+    }
+}
+
+/// A timer of a side runs out: t-PollRetransmit is its transmitter's, the other two are its receiver's (TS 38.322 clause 7.3).
+/// It takes no memory.
+pub fn hop_expire(tx: &mut AmTx, rx: &mut AmRx, timer: Timer) -> Expired
+    ensures { ExpiresHop tx.old rx.old timer result tx.new rx.new }
+{
+    match timer {
+        Timer::Poll => tx.expire_poll(),
+        Timer::Reasm => rx.expire_reassembly(),
+        Timer::Prohibit => rx.expire_prohibit(),
     }
 }

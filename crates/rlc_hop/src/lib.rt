@@ -7,6 +7,6 @@ mod hop;
 mod passing;
 
 pub use air::Air;
-pub use hop::{hop_grant, hop_hear};
-pub use passing::may_pass;
+pub use hop::{hop_expire, hop_grant, hop_hear};
+pub use passing::{may_pass, side_fault};
 pub use rlc_model::{AirFault, HopGrant, HopHeard, Pdu};
