@@ -22,7 +22,7 @@ use Rattle.node_ports.specs.Table.{IsPlace, side_in}
 use Rattle.node_ports.specs.Calls.{HearsPort}
 
 -- an entity with another transmitter and receiver, in its epoch
-in_epoch : (old new : Entity) → new.epoch ≡ old.epoch → new ≡ record old { tx = new.tx; rx = new.rx }
+pub in_epoch : (old new : Entity) → new.epoch ≡ old.epoch → new ≡ record old { tx = new.tx; rx = new.rx }
 in_epoch old new e = ap (λ (n : ℕ). let x : Entity = record { tx = new.tx; rx = new.rx; epoch = n } in x) e
 
 -- where nothing is sent the transmitter and the receiver are as they were

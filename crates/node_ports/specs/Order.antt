@@ -1,5 +1,5 @@
 -- The order of ports: direct ports, then PC5 ports, then Uu ports, each by remote and then by bearer or channel.
-use Rattle.std.specs.Prelude.{ℕ, ◌==◌, Bool, ◌&&◌, ◌||◌, nat_lt}
+use Rattle.std.specs.Prelude.{◌≡◌, ℕ, ◌<◌, ◌==◌, Bool, ◌&&◌, ◌||◌, nat_lt, List, length, slice_index_or}
 use Rattle.link_base.specs.declared.names.PortName.{PortName}
 use Rattle.link_base.specs.declared.names.PortName.TheVariants.{Direct, Pc5, Uu}
 use Rattle.node_model.specs.State.{PortSide}
@@ -33,3 +33,12 @@ is_before a b = first_then (kind_rank a) (kind_rank b) (first_then (remote_rank 
 -- the same of sides, by their ports
 abbrev pub side_before : PortSide → PortSide → Bool
 side_before a b = is_before a.name b.name
+
+-- the same of rows of any kind, by the port whose row each is
+abbrev pub by_port : {T : Type 0} → (T → PortName) → T → T → Bool
+by_port port_of a b = is_before (port_of a) (port_of b)
+
+-- the row of a port stands at this place
+pub record IsRowOf {T : Type 0} (port_of : T → PortName) (rows : List T) (port : PortName) (place : ℕ) : Type 0 where
+  pub within : place < length rows
+  pub its : (row : T) → port_of (slice_index_or rows place row) ≡ port

@@ -11,7 +11,7 @@ use bearer_map::Settings;
 use link_base::{Bytes, Expired, Memory, SnSize, Tag, Timer};
 use rlc_am_rx::AmRx;
 use rlc_am_tx::AmTx;
-use rlc_hop::{AirFault, HopGrant, HopHeard, Pdu, hop_grant, hop_hear, may_pass};
+use rlc_hop::{AirFault, HopGrant, HopHeard, Pdu, hop_expire, hop_grant, hop_hear, side_fault};
 use std::alloc::Global;
 use std::marker::Model;
 
@@ -79,12 +79,7 @@ impl RlcEntity {
     pub(crate) fn fault(&self, pdu: &Pdu) -> Option<AirFault>
         ensures { result ≡ side_fault pdu.now (Some self.now.epoch) self.now.tx self.now.rx }
     {
-        let passed = if pdu.status {
-            may_pass(pdu, Some(self.epoch), self.tx.next_ack(), self.tx.size())
-        } else {
-            may_pass(pdu, Some(self.epoch), self.rx.next(), self.rx.size())
-        };
-        passed.err()
+        side_fault(pdu, self.epoch, &self.tx, &self.rx)
     }
 
     /// Sends one PDU of at most so many octets, as `hop_grant`.
@@ -111,11 +106,7 @@ impl RlcEntity {
     pub(crate) fn expire(&mut self, timer: Timer) -> Expired
         ensures { ExpiresEntity self.old timer result self.new }
     {
-        match timer {
-            Timer::Poll => self.tx.expire_poll(),
-            Timer::Reasm => self.rx.expire_reassembly(),
-            Timer::Prohibit => self.rx.expire_prohibit(),
-        }
+        hop_expire(&mut self.tx, &mut self.rx, timer)
     }
 
     /// Gives its transmitter an SDU of 1 to 9,005 bytes. After an `Err` nothing changed.

@@ -8,4 +8,5 @@ mod order;
 mod ports;
 mod side;
 
+pub use order::{PortRow, row_of};
 pub use ports::Ports;

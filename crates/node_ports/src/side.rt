@@ -6,6 +6,7 @@ ghost use Rattle.node_model.specs.Opening.{new_side};
 ghost use Rattle.node_model.specs.Hearing.{side_refusal, entity_fault};
 
 use crate::entity::RlcEntity;
+use crate::order::PortRow;
 use bearer_map::Settings;
 use link_base::{Bytes, Expired, Memory, PortName, SnSize, Tag, Timer};
 use node_model::{NodeHeard, Parcel, PortGrant};
@@ -61,12 +62,6 @@ impl PortSide {
             slot: None,
             queue: VecDeque::new(alloc),
         })
-    }
-
-    pub(crate) fn name(&self) -> PortName
-        ensures { result ≡ self.now.name }
-    {
-        self.name
     }
 
     pub(crate) fn entity(&self) -> Option<&RlcEntity>
@@ -150,5 +145,15 @@ impl PortSide {
             unreachable!()
         };
         entity.give(tag, sdu)
+    }
+}
+
+impl PortRow for PortSide {
+    ghost use Rattle.node_model.specs.Places.{side_name};
+
+    ghost port_of = { side_name };
+
+    fn port(&self) -> PortName {
+        self.name
     }
 }
