@@ -1,0 +1,6 @@
+pub mod Pairs
+pub mod AtPlace
+mod Opened
+mod Attached
+pub mod Heard
+pub mod Moving

@@ -1,0 +1,4 @@
+use Rattle.relay_core.proofs.relay.Relay.remote_of.Goals as goal
+
+pub returns-clause-none : goal.returns-clause-none
+returns-clause-none c = rw (← c.self.view_is) c.remote_of.ensures.none

@@ -1,0 +1,6 @@
+pub mod Queue
+pub mod Ports
+pub mod Opening
+pub mod Calls
+pub mod Routing
+pub mod Relay
