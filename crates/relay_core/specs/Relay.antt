@@ -22,6 +22,10 @@ relay_with ports attached = record { name = AtRelay; ports = ports; attached = a
 abbrev pub relay_of : Inside → TabledNode
 relay_of a = record { tables = a.tables; node = relay_with (sides_of a.ingress.items a.egress.items) a.ids }
 
+-- the node is the relay's: no bearer ends there
+abbrev pub IsRelayNode : Node → Type 0
+IsRelayNode n = (n.name ≡ AtRelay) × (n.outgoing ≡ []) × (n.incoming ≡ [])
+
 -- how many SDUs each queue may hold
 abbrev pub queue_capacity : Contents → ℕ
 queue_capacity t = (settings t).queue

@@ -8,6 +8,7 @@ ghost use Rattle.node_model.specs.Hearing.{HearsPdu, Follows};
 ghost use Rattle.node_ports.specs.Sides.{IsThere, IsSmall};
 ghost use Rattle.node_ports.specs.Table.{IsPlace};
 ghost use Rattle.relay_core.specs.Ports.{IsOfRelay, relay_side};
+ghost use Rattle.relay_core.specs.Relay.{IsRelayNode};
 ghost use Rattle.relay_core.specs.Routing.{PassesOn};
 
 use crate::Relay;
@@ -33,7 +34,7 @@ impl Relay {
         ensures ok { IfOk result (λ answer. HearsPdu self.old.tables self.old.node
             (relay_side pdu.now.port) pdu.now answer self.new.node) }
         ensures tables { self.new.tables ≡ self.old.tables }
-        ensures name { self.new.node.name ≡ self.old.node.name }
+        ensures relay { IsRelayNode self.new.node }
         ensures err { OnErr result (self.new ≡ self.old) }
         ensures memory { OnErr result (IsThere (λ e. HearsNews e.tx e.rx pdu.now.bytes)
             (entity_at self.old.node pdu.now.port)) }
@@ -59,10 +60,11 @@ impl Relay {
         requires of_relay { IsOfRelay port }
         requires place { IsPlace self.old.node.ports port place }
         requires length { CompletesSdu hop }
+        requires relay { IsRelayNode self.old.node }
         ensures follows { (side : PortSide) → side ≡ slice_index_or self.old.node.ports place side
             → Follows self.old.tables self.old.node (relay_side port) side hop result self.new.node }
         ensures tables { self.new.tables ≡ self.old.tables }
-        ensures name { self.new.node.name ≡ self.old.node.name }
+        ensures relay { IsRelayNode self.new.node }
     {
         match hop {
             HopHeard::Amd(Heard::Complete(_, sdu)) => self.keep(place, port, sdu),
@@ -80,7 +82,7 @@ impl Relay {
             → PassesOn self.old.tables self.old.node (relay_side port) side sdu result
             self.new.node }
         ensures tables { self.new.tables ≡ self.old.tables }
-        ensures name { self.new.node.name ≡ self.old.node.name }
+        ensures relay { IsRelayNode self.new.node }
     {
         match route_of(&self.tables, &self.ids, port, sdu.as_slice()) {
             Ok(route) => {

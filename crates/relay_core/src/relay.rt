@@ -14,7 +14,7 @@ ghost use Rattle.node_model.specs.Relaying.{PushesPort, PullsPort, pull_refusal}
 ghost use Rattle.node_ports.specs.Sides.{IsThere, is_sent};
 ghost use Rattle.node_ports.specs.Table.{tx_of, rx_of};
 ghost use Rattle.relay_core.specs.Opening.{HaveChannels};
-ghost use Rattle.relay_core.specs.Relay.{queue_capacity, is_empty_node, has_empty_slot, has_empty_queue};
+ghost use Rattle.relay_core.specs.Relay.{IsRelayNode, queue_capacity, is_empty_node, has_empty_slot, has_empty_queue};
 
 use crate::opening::{attached, new_egresses, new_ingresses, new_ports};
 use crate::ports::{EgressPort, IngressPort, expire, grant};
@@ -88,7 +88,7 @@ impl Relay {
             (λ answer. GrantsPort self.old.node port octets answer self.new.node) }
         ensures still { IfOk result (λ answer. is_sent answer ≡ false → self.new ≡ self.old) }
         ensures tables { self.new.tables ≡ self.old.tables }
-        ensures name { self.new.node.name ≡ self.old.node.name }
+        ensures relay { IsRelayNode self.new.node }
         ensures err { OnErr result (self.new ≡ self.old) }
         ensures memory { OnErr result
             (IsThere (λ e. IsToSend e.tx e.rx octets) (entity_at self.old.node port)) }
@@ -110,7 +110,7 @@ impl Relay {
     pub fn expire(&mut self, port: PortName, timer: Timer) -> Option<Expired>
         ensures expires { ExpiresPort self.old.node port timer result self.new.node }
         ensures tables { self.new.tables ≡ self.old.tables }
-        ensures name { self.new.node.name ≡ self.old.node.name }
+        ensures relay { IsRelayNode self.new.node }
     {
         let Some(place) = row_of(&self.ingress, port) else {
             return None;
@@ -128,7 +128,7 @@ impl Relay {
         ensures pushes { PushesPort (queue_capacity self.old.tables) self.old.node port result
             self.new.node }
         ensures tables { self.new.tables ≡ self.old.tables }
-        ensures name { self.new.node.name ≡ self.old.node.name }
+        ensures relay { IsRelayNode self.new.node }
     {
         let Some(place) = row_of(&self.ingress, port) else {
             return PushReply::NoPort;
@@ -166,7 +166,7 @@ impl Relay {
             → tx_next entity.tx < 2 ^ 62 }
         ensures ok { IfOk result (λ reply. PullsPort self.old.node port reply self.new.node) }
         ensures tables { self.new.tables ≡ self.old.tables }
-        ensures name { self.new.node.name ≡ self.old.node.name }
+        ensures relay { IsRelayNode self.new.node }
         ensures err { OnErr result (self.new ≡ self.old) }
         ensures memory { OnErr result (pull_refusal (side_at self.old.node port) ≡ None) }
     {
