@@ -118,11 +118,11 @@ module _ (test : Node → Bool) where
     | inr fails ↦ cond-false (test x) (Some x) (find test (xs ++ ns)) fails ∙ find_hidden xs ns p (sym (cond-false (test x) (Some x) (find test xs) fails) ∙ e)
   ]
 
-  find_skip : (pre ns : List Node) (n m : Node) → test n ≡ false → test m ≡ false → find test (pre ++ n ∷ ns) ≡ find test (pre ++ m ∷ ns)
+  pub find_skip : (pre ns : List Node) (n m : Node) → test n ≡ false → test m ≡ false → find test (pre ++ n ∷ ns) ≡ find test (pre ++ m ∷ ns)
   find_skip [] ns n m a b = cond-false (test n) (Some n) (find test ns) a ∙ sym (cond-false (test m) (Some m) (find test ns) b)
   find_skip (x ∷ xs) ns n m a b = ap (cond (test x) (Some x)) (find_skip xs ns n m a b)
 
-  find_shown : (pre ns : List Node) (n : Node) → find test pre ≡ None → test n ≡ true → find test (pre ++ n ∷ ns) ≡ Some n
+  pub find_shown : (pre ns : List Node) (n : Node) → find test pre ≡ None → test n ≡ true → find test (pre ++ n ∷ ns) ≡ Some n
   find_shown [] ns n e is = cond-true (test n) (Some n) (find test ns) is
   find_shown (x ∷ xs) ns n e is = elim (cases_Bool (test x)) [
     | inl passed ↦ absurd (none-some x (sym e ∙ cond-true (test x) (Some x) (find test xs) passed))

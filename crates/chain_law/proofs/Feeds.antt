@@ -26,12 +26,12 @@ use Rattle.chain_law.proofs.Stands.{Moved, moves}
 use Rattle.chain_law.proofs.Nodes.{NodeFits, outgoing_fits, Goes, goes_nowhere, goes_on, goes_outgoing, goes_incoming, goes_called}
 
 -- a PDCP PDU of at most 9,003 octets is an SDU for RLC, also with a header of SRAP before it
-under_fits : (id : Option LocalId) (drb : Drb) (pdu : List ℕ) → 0 < length pdu → length pdu ≤ 9003 → IsSdu (under id drb pdu)
+pub under_fits : (id : Option LocalId) (drb : Drb) (pdu : List ℕ) → 0 < length pdu → length pdu ≤ 9003 → IsSdu (under id drb pdu)
 under_fits None drb pdu some most = record { some = some; most = omega (arith, most) }
 under_fits (Some id) drb pdu some most = record { some = omega arith; most = omega (arith, most) }
 
 -- a data PDU has two or three octets more than its SDU
-data_long : (size : SnSize) (sn : ℕ) (sdu : List ℕ) → IsBody sdu → (0 < length (pdcp_bytes size (Sdu sn sdu))) × (length (pdcp_bytes size (Sdu sn sdu)) ≤ 9003)
+pub data_long : (size : SnSize) (sn : ℕ) (sdu : List ℕ) → IsBody sdu → (0 < length (pdcp_bytes size (Sdu sn sdu))) × (length (pdcp_bytes size (Sdu sn sdu)) ≤ 9003)
 data_long S12 sn sdu body = (omega arith, omega (arith, body.1))
 data_long S18 sn sdu body = (omega arith, omega (arith, body.1))
 
@@ -43,7 +43,7 @@ all_none (None ∷ xs) (suc k) all = all_none xs k all
 all_none (Some x ∷ xs) k all = absurd (false≢true all)
 
 -- a status report that can tell of all that is stored has at most 8,192 octets behind its FMC
-report_long : (r : Receiver) (fmc : ℕ) (map : List ℕ) → can_report r ≡ true → IsReport r fmc map → length map ≤ 8192
+pub report_long : (r : Receiver) (fmc : ℕ) (map : List ℕ) → can_report r ≡ true → IsReport r fmc map → length map ≤ 8192
 report_long r fmc map can is = elim is.ends [
   | inl none ↦ omega (arith, ap length none)
   | inr last ↦ elim (cases_lt last.0 65536) [

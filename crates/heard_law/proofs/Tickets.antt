@@ -68,11 +68,11 @@ pub any_append : (t : ℕ) (xs ys : List Event) → NoHeard ys → list_any (eve
 any_append t [] ys none = none_heard t ys none
 any_append t (x ∷ xs) ys none = ap (λ (b : Bool). event_hears t x || b) (any_append t xs ys none)
 
-append_none : (xs ys : List Event) → NoHeard xs → NoHeard ys → NoHeard (xs ++ ys)
+pub append_none : (xs ys : List Event) → NoHeard xs → NoHeard ys → NoHeard (xs ++ ys)
 append_none [] ys a b = b
 append_none (x ∷ xs) ys a b = (a.0, append_none xs ys a.1 b)
 
-conf_none : (old mid : Chain) (ks : List Key) → NoHeard (filter_map (confirming old mid) ks)
+pub conf_none : (old mid : Chain) (ks : List Key) → NoHeard (filter_map (confirming old mid) ks)
 conf_none old mid [] = tt
 conf_none old mid (x ∷ ks) =
     elim (nat_lt (confirmed (sender_at old x)) (confirmed (sender_at mid x))) as (λ b. NoHeard (cons_option (cond b (Some (Conf x (confirmed (sender_at mid x)))) None) (filter_map (confirming old mid) ks))) [
@@ -80,7 +80,7 @@ conf_none old mid (x ∷ ks) =
       | false ↦ conf_none old mid ks
     ]
 
-rep_none : (given ks : List Key) → NoHeard (filter_map (reporting given) ks)
+pub rep_none : (given ks : List Key) → NoHeard (filter_map (reporting given) ks)
 rep_none given [] = tt
 rep_none given (x ∷ ks) =
     elim (list_any (λ y. is_key x y) given) as (λ b. NoHeard (cons_option (cond b (Some (Rep x)) None) (filter_map (reporting given) ks))) [
@@ -133,7 +133,7 @@ heard_says port way (answers.Discard name) events reply t = says _ events reply 
 heard_says port way (answers.Hop answer) events reply t = hop_says port way answer events reply t
 
 -- a side that refuses a PDU doesn't take it over
-refused : (pdu : Pdu) (o : Option PortSide) (r : NodeHeard) → hear_refusal pdu o ≡ Some r → is_handed_over r ≡ false
+pub refused : (pdu : Pdu) (o : Option PortSide) (r : NodeHeard) → hear_refusal pdu o ≡ Some r → is_handed_over r ≡ false
 refused pdu None r e = ap is_handed_over (sym (same_Some answers.NoPort r e))
 refused pdu (Some side) r e = by (entity_fault pdu side.entity) e
   where
@@ -187,7 +187,7 @@ module _ (old mid : Chain) where
   expired port way (expiry.Marked n) own reply t = subst NoHeard (sym t.0) (marks_none port way (n ∷ []))
   expired port way expiry.Stopped own reply t = shows_none own t.0
 
-  does_none : (line : Line) (own : List Event) (reply : Reply) → is_burst line ≡ false → Does old line own reply mid → NoHeard own
+  pub does_none : (line : Line) (own : List Event) (reply : Reply) → is_burst line ≡ false → Does old line own reply mid → NoHeard own
   does_none (Submit key sdu) own reply it d = unless (submit_refusal old key) own reply _ (submits (submit_fault (sender_at old key) sdu) key sdu own reply) d
   does_none (Grant port way octets) own reply it d = unless (grant_refusal old port way) own reply (Granted old port way octets own reply mid) (λ g. shows_none own g.shows) d
   does_none (Deliver ticket) own reply it d = delivers (on_air old.air ticket) own reply (without ticket) d

@@ -40,7 +40,7 @@ use Rattle.item_chain.proofs.Tags.{only_arrived}
 use Rattle.item_chain.proofs.Receives.{some_is, none_is, Took, hears_count}
 
 -- the hand-up of what is heard
-hand_up : (heard : ℕ → Option Sdu) (m : ℕ) → ((c : ℕ) → c < m → is_some (heard c) ≡ true) → (ups : List Sdu) × (length ups ≡ m)
+pub hand_up : (heard : ℕ → Option Sdu) (m : ℕ) → ((c : ℕ) → c < m → is_some (heard c) ≡ true) → (ups : List Sdu) × (length ups ≡ m)
     × ((c : ℕ) → c < m → heard c ≡ Some (get_or ups c []))
 hand_up heard zero all = ([], refl, λ c lt. absurd (omega (arith, lt)))
 hand_up heard (suc m) all =

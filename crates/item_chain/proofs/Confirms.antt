@@ -221,7 +221,7 @@ tags_done t items spot name (Some k ∷ olds) (None ∷ news) each = (
 tags_done t items spot name (Some k ∷ olds) (Some n ∷ news) each = tags_done t items spot name olds news (λ k kept was lt is. each (suc k) kept was (omega (arith, lt)) is)
 
 -- a list has something at each place below its length
-has_at : {T : Type 0} (xs : List T) (k : ℕ) → k < length xs → (x : T) × (slice_get xs k ≡ Some x)
+pub has_at : {T : Type 0} (xs : List T) (k : ℕ) → k < length xs → (x : T) × (slice_get xs k ≡ Some x)
 has_at [] k lt = absurd (omega (arith, lt))
 has_at (x ∷ xs) zero lt = (x, refl)
 has_at (x ∷ xs) (suc k) lt = has_at xs k (omega (arith, lt))

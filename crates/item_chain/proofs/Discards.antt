@@ -61,13 +61,34 @@ module _ (g : Ghost) (v : View) (st : Stands g v) (e : Entity) (number : ℕ) (b
     up_header fault bad = header_fine g v st k up.0 up.2.u up.1 up.2.goal fault (subst (λ (b : List ℕ). IsSrapFault b fault)
         (spells g v st Ul (Pc5 q c) e is_open number bytes tx rx x sdu h) bad)
 
+    -- where the relay attaches its identity to the remote of the port it has a way up
+    no_route_up : (head : Srap) → IsSrap head sdu → (fault : RouteFault) → UpRoute v.tables.maps (v.attached AtRelay) q c head.ue head.bearer (Err fault)
+        → goal_at (g.chain.path q) kinds.Relay ≡ ToRelay up.2.u → ⊥
+    no_route_up head read fault missing goal =
+        let i = up.0 in
+        let f = up.2 in
+        let by : FirstBy v.tables i (ToRelay f.u) Ul (Pc5 q c) e.epoch = f.by in
+        let mine = srap_is g v st k i f.u up.1 f.goal head (subst (IsSrap head) (spells g v st Ul (Pc5 q c) e is_open number bytes tx rx x sdu h) read) in
+        let own : q ≡ i.key.remote = pc5_remote q i.key.remote c by.0.pc5 by.2 in
+        no_way_up g v st q c f.u head.bearer i.key.drb by.0 mine.1 (ap (λ (r : Remote). map_row v.tables r i.key.drb) own ∙ by.1)
+        (sym (pc5_chan q i.key.remote c by.0.pc5 by.2)) fault
+        (subst (λ (u : ℕ). UpRoute v.tables.maps (v.attached AtRelay) q c u head.bearer (Err fault)) mine.0 missing) goal
+
+    pub up_routed : (head : Srap) → IsSrap head sdu → (fault : RouteFault) → UpRoute v.tables.maps (v.attached AtRelay) q c head.ue head.bearer (Err fault)
+        → ((i : Item) → g.chain.items k ≡ Some i → goal_at (g.chain.path i.key.remote) kinds.Relay ≡ i.goal) → ⊥
+    up_routed head read fault missing attached =
+        let i = up.0 in
+        let f = up.2 in
+        let by : FirstBy v.tables i (ToRelay f.u) Ul (Pc5 q c) e.epoch = f.by in
+        no_route_up head read fault missing
+        (ap (λ (r : Remote). goal_at (g.chain.path r) kinds.Relay) (pc5_remote q i.key.remote c by.0.pc5 by.2) ∙ attached i up.1 ∙ f.goal)
+
     pub discards_up : (head : Srap) → IsSrap head sdu → (fault : RouteFault) → UpRoute v.tables.maps (v.attached AtRelay) q c head.ue head.bearer (Err fault)
         → Refines v.tables g (record v { entity = put_at is_side is_port v.entity High (Pc5 q c) (Some (record e { tx = tx; rx = rx })) })
     discards_up head read fault missing =
         let i = up.0 in
         let f = up.2 in
         let by : FirstBy v.tables i (ToRelay f.u) Ul (Pc5 q c) e.epoch = f.by in
-        let mine = srap_is g v st k i f.u up.1 f.goal head (subst (IsSrap head) (spells g v st Ul (Pc5 q c) e is_open number bytes tx rx x sdu h) read) in
         let own : q ≡ i.key.remote = pc5_remote q i.key.remote c by.0.pc5 by.2 in
         let opened = st.paths.opens High (Pc5 q c) e is_open in
         left g v st Ul (Pc5 q c) e is_open number bytes tx rx x sdu h Lost tt refl g.chain.sender g.chain.heard v.outgoing v.incoming
@@ -77,10 +98,7 @@ module _ (g : Ghost) (v : View) (st : Stands g v) (e : Entity) (number : ℕ) (b
           ap (λ (r : Remote). is_over_relay (goal_at (g.chain.path r) kinds.Relay)) (sym own) ∙ opened.1,
         ))
         (λ r routes. let z : RelayRoutes (item_tables v.tables) g.chain i Ul r = subst (λ (w : Way). RelayRoutes (item_tables v.tables) g.chain i w r) f.way routes in
-        no_way_up g v st q c f.u head.bearer i.key.drb by.0 mine.1 (ap (λ (r : Remote). map_row v.tables r i.key.drb) own ∙ by.1)
-        (sym (pc5_chan q i.key.remote c by.0.pc5 by.2)) fault
-        (subst (λ (u : ℕ). UpRoute v.tables.maps (v.attached AtRelay) q c u head.bearer (Err fault)) mine.0 missing)
-        (ap (λ (r : Remote). goal_at (g.chain.path r) kinds.Relay) (own ∙ sym z.0) ∙ z.1 ∙ f.goal))
+        no_route_up head read fault missing (ap (λ (r : Remote). goal_at (g.chain.path r) kinds.Relay) (own ∙ sym z.0) ∙ z.1 ∙ f.goal))
         refl)
         st.ends
 
@@ -96,21 +114,36 @@ module _ (g : Ghost) (v : View) (st : Stands g v) (e : Entity) (number : ℕ) (b
     down_header fault bad = header_fine g v st l down.0 down.2.u down.1 down.2.goal fault
         (subst (λ (b : List ℕ). IsSrapFault b fault) (spells g v st Dl (Uu c) e is_open number bytes tx rx x sdu h) bad)
 
+    -- where the relay attaches its identity to a remote whose bearer has this Uu channel it has a way down
+    no_route_down : (head : Srap) → IsSrap head sdu → (fault : RouteFault) → DownRoute v.tables.maps (v.attached AtRelay) c head.ue head.bearer (Err fault)
+        → (r : Remote) (row : MapRow) → map_row v.tables r down.0.key.drb ≡ Some row → row.uu ≡ c → goal_at (g.chain.path r) kinds.Relay ≡ ToRelay down.2.u → ⊥
+    no_route_down head read fault missing r row its_row same goal =
+        let i = down.0 in
+        let f = down.2 in
+        let mine = srap_is g v st l i f.u down.1 f.goal head (subst (IsSrap head) (spells g v st Dl (Uu c) e is_open number bytes tx rx x sdu h) read) in
+        no_way_over g v st down_route kinds.Relay c f.u head.bearer i.key.drb r row mine.1 its_row same fault (λ q at. at)
+        (subst (λ (u : ℕ). DownRoute v.tables.maps (v.attached AtRelay) c u head.bearer (Err fault)) mine.0 missing) goal
+
+    pub down_routed : (head : Srap) → IsSrap head sdu → (fault : RouteFault) → DownRoute v.tables.maps (v.attached AtRelay) c head.ue head.bearer (Err fault)
+        → ((i : Item) → g.chain.items l ≡ Some i → goal_at (g.chain.path i.key.remote) kinds.Relay ≡ i.goal) → ⊥
+    down_routed head read fault missing attached =
+        let i = down.0 in
+        let f = down.2 in
+        let by : FirstBy v.tables i (ToRelay f.u) Dl (Uu c) e.epoch = f.by in
+        no_route_down head read fault missing i.key.remote by.0 by.1 (sym (uu_chan c by.0.uu by.2)) (attached i down.1 ∙ f.goal)
+
     pub discards_down : (head : Srap) → IsSrap head sdu → (fault : RouteFault) → DownRoute v.tables.maps (v.attached AtRelay) c head.ue head.bearer (Err fault)
         → Refines v.tables g (record v { entity = put_at is_side is_port v.entity Low (Uu c) (Some (record e { tx = tx; rx = rx })) })
     discards_down head read fault missing =
         let i = down.0 in
         let f = down.2 in
         let by : FirstBy v.tables i (ToRelay f.u) Dl (Uu c) e.epoch = f.by in
-        let mine = srap_is g v st l i f.u down.1 f.goal head (subst (IsSrap head) (spells g v st Dl (Uu c) e is_open number bytes tx rx x sdu h) read) in
         left g v st Dl (Uu c) e is_open number bytes tx rx x sdu h Lost tt refl g.chain.sender g.chain.heard v.outgoing v.incoming
         (discard_relay l i f.u down.1 f.spot f.goal
         (subst (IsOpenAtRelay g.chain i) (sym f.way) tt)
         (λ r routes. let z : RelayRoutes (item_tables v.tables) g.chain i Dl r = subst (λ (w : Way). RelayRoutes (item_tables v.tables) g.chain i w r) f.way routes in
         let row = row_with v r i.key.drb z.1.chan z.1.second in
         let same : z.1.chan ≡ by.0.uu = same_Some z.1.chan by.0.uu (sym z.1.first ∙ ap (option_map uu_of) by.1) in
-        no_way_over g v st down_route kinds.Relay c f.u head.bearer i.key.drb r row.0 mine.1 row.1 (row.2 ∙ same ∙ sym (uu_chan c by.0.uu by.2)) fault (λ q at. at)
-        (subst (λ (u : ℕ). DownRoute v.tables.maps (v.attached AtRelay) c u head.bearer (Err fault)) mine.0 missing)
-        (z.0 ∙ f.goal))
+        no_route_down head read fault missing r row.0 row.1 (row.2 ∙ same ∙ sym (uu_chan c by.0.uu by.2)) (z.0 ∙ f.goal))
         refl)
         st.ends

@@ -11,6 +11,11 @@ use Rattle.item_chain.specs.Stands.{calm, Ghost, Stands, Goes, rests, steps, Ref
 pub reaches_on : (t : ItemTables) (old new : ItemChain) → Reaches t (calm old) → Step t old new → Reaches t (calm new)
 reaches_on t old new r s = record { fits = r.fits; before = calm old ∷ r.before; run = (happens s refl (λ q e. inl e), r.run) }
 
+-- a run and some steps more
+pub reaches_goes : {t : ItemTables} {old new : ItemChain} → Reaches t (calm old) → Goes t old new → Reaches t (calm new)
+reaches_goes r rests = r
+reaches_goes {t = t} {new = new} r (steps {mid} more s) = reaches_on t mid new (reaches_goes r more) s
+
 -- one step, no step, and some steps behind others
 pub one_step : (t : ItemTables) (old new : ItemChain) → Step t old new → Goes t old new
 one_step t old new s = steps rests s

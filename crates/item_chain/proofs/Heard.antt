@@ -123,21 +123,21 @@ module _ (g : Ghost) (old : Chain) (st : Stands g (view old)) (ticket : ℕ) (pd
       → Comes (set_entity N may.side x)
   entity_only x done = subst (Refines old.tables g) (sym (entity_set old (hearer_of pdu.way) pdu.port may.side may.here x)) done
 
+  -- where an SDU leads doesn't hang on entities
+  same_leads : (tx : Tx) (rx : Rx) (sdu : List ℕ) (target : Result Target Discard) (s : Side) (p : PortName) → Leads old.tables (node_with tx rx) s p sdu target
+      → Leads old.tables N s p sdu target
+  same_leads tx rx sdu target s (Direct r d) l = l
+  same_leads tx rx sdu target Low (Pc5 r c) l = l
+  same_leads tx rx sdu target High (Pc5 r c) l = l
+  same_leads tx rx sdu target Low (Uu c) l = l
+  same_leads tx rx sdu target High (Uu c) l = l
+
+  pub its_leads : (tx : Tx) (rx : Rx) (sdu : List ℕ) (target : Result Target Discard) → Leads old.tables (node_with tx rx) (hearer_of pdu.way) may.side.name sdu target
+      → Leads old.tables N (hearer_of pdu.way) pdu.port sdu target
+  its_leads tx rx sdu target l = subst (λ (p : PortName). Leads old.tables N (hearer_of pdu.way) p sdu target) (sym (side_name N pdu.port may.side may.here))
+      (same_leads tx rx sdu target (hearer_of pdu.way) may.side.name l)
+
   module _ (completes : Completes) (confirms : Confirms) where
-    -- where an SDU leads doesn't hang on entities
-    same_leads : (tx : Tx) (rx : Rx) (sdu : List ℕ) (target : Result Target Discard) (s : Side) (p : PortName) → Leads old.tables (node_with tx rx) s p sdu target
-        → Leads old.tables N s p sdu target
-    same_leads tx rx sdu target s (Direct r d) l = l
-    same_leads tx rx sdu target Low (Pc5 r c) l = l
-    same_leads tx rx sdu target High (Pc5 r c) l = l
-    same_leads tx rx sdu target Low (Uu c) l = l
-    same_leads tx rx sdu target High (Uu c) l = l
-
-    its_leads : (tx : Tx) (rx : Rx) (sdu : List ℕ) (target : Result Target Discard) → Leads old.tables (node_with tx rx) (hearer_of pdu.way) may.side.name sdu target
-        → Leads old.tables N (hearer_of pdu.way) pdu.port sdu target
-    its_leads tx rx sdu target l = subst (λ (p : PortName). Leads old.tables N (hearer_of pdu.way) p sdu target) (sym (side_name N pdu.port may.side may.here))
-        (same_leads tx rx sdu target (hearer_of pdu.way) may.side.name l)
-
     data_same : (tx : Tx) (rx : Rx) (a : Heard) → HearsDataMade mine pdu.way pdu.number pdu.bytes a tx rx → ((k : ℕ) (sdu : List ℕ) → a ≡ heard.Complete k sdu → ⊥) → (node : Node)
         → node ≡ node_with tx rx → Comes node
     data_same tx rx a h none node is = subst Comes (sym is)

@@ -32,4 +32,15 @@ pub mod OpenedNodes
 pub mod OpenedEnds
 pub mod Opened
 pub mod Submits
+pub mod Gives
+pub mod FirstHops
+pub mod Reports
+pub mod FeedsData
+pub mod FeedsReport
+pub mod Feeds
+pub mod FeedsAll
+pub mod Runs
+pub mod Room
+pub mod FedKeys
+pub mod FedNodes
 pub mod TheLaws

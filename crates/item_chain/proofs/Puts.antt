@@ -1,12 +1,14 @@
 -- Tables with one value changed.
-use Rattle.std.proofs.Common.{◌≡◌, ◌⊎◌, inl, inr, Bool, true, ◌&&◌, refl, sym, subst}
+use mathlib.Core.Path.{fun_ext}
+use Rattle.std.proofs.Common.{◌≡◌, ◌⊎◌, inl, inr, Bool, true, ◌&&◌, refl, sym, ◌∙◌, subst}
 use Rattle.std.proofs.lemmas.Bool.{cases_Bool, and_parts, and_from, cond-true, cond-false}
 use Rattle.link_base.specs.declared.names.Side.{Side}
 use Rattle.link_base.specs.declared.names.Side.TheVariants.{Low, High}
 use Rattle.rlc_law.specs.Ports.{Changes}
 use Rattle.node_model.specs.Names.{is_node, is_port}
 use Rattle.node_model.proofs.Names.{node_is, node_refl, port_is, port_refl}
-use Rattle.item_law.proofs.base.Puts.{Decides, cases_same}
+use Rattle.item_law.specs.State.{put}
+use Rattle.item_law.proofs.base.Puts.{Decides, cases_same, put_same, put_other, put_all}
 use Rattle.item_chain.specs.View.{is_side, put_at}
 use Rattle.std.proofs.lemmas.Bool.{false≢true}
 
@@ -63,3 +65,11 @@ module _ {R C : Type 0} {is_row : R → R → Bool} {is_column : C → C → Boo
   -- a value that is put where it stands changes nothing
   pub at_same : {X : Type 0} (f : R → C → X) (r : R) (c : C) (x : X) → f r c ≡ x → (s : R) (d : C) → put_at is_row is_column f r c x s d ≡ f s d
   at_same f r c x is = at_all f r c x (λ s d y. y ≡ f s d) (sym is) (λ s d ne. refl)
+
+-- a value that is put twice, and one that is put where it stands
+pub put_twice : {K X : Type 0} {is : K → K → Bool} (test : Decides is) (f : K → X) (k : K) (x y : X) → put is (put is f k x) k y ≡ put is f k y
+put_twice {K = K} {is = is} test f k x y = fun_ext (λ l. sym (put_all test (λ l z. z ≡ put is (put is f k x) k y l) f k y (sym (put_same test (put is f k x) k y))
+    (λ l ne. sym (put_other test (put is f k x) k y l ne ∙ put_other test f k x l ne)) l))
+
+pub put_own : {K X : Type 0} {is : K → K → Bool} (test : Decides is) (f : K → X) (k : K) (x : X) → f k ≡ x → put is f k x ≡ f
+put_own {K = K} {is = is} test f k x e = fun_ext (λ l. put_all test (λ l z. z ≡ f l) f k x (sym e) (λ l ne. refl) l)

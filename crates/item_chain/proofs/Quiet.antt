@@ -62,7 +62,8 @@ reassembly_quiet old new (expires_reassembly r x) = record { given = refl; done 
 pub prohibit_quiet : (old new : Hop) → Happens old ExpireProhibit new → SameSdus old new
 prohibit_quiet old new (expires_prohibit r x) = record { given = refl; done = λ k. let e = ap (λ (r : Rx). got r k) x.is in ((λ d. sym e ∙ d), (λ d. e ∙ d)) }
 
-at_end : (xs : List (List ℕ)) (x d : List ℕ) → get_or (xs ++ x ∷ []) (length xs) d ≡ x
+-- at the end of a list is what came there
+pub at_end : {X : Type 0} (xs : List X) (x d : X) → get_or (xs ++ x ∷ []) (length xs) d ≡ x
 at_end [] x d = refl
 at_end (y ∷ xs) x d = at_end xs x d
 

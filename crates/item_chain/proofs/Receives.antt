@@ -55,7 +55,7 @@ run_stops [] = refl
 run_stops (None ∷ ss) = refl
 run_stops (Some sdu ∷ ss) = run_stops ss
 
-dropped : (n : ℕ) (ss : List (Option Sdu)) (k : ℕ) → get_or (drop n ss) k None ≡ get_or ss (n + k) None
+pub dropped : (n : ℕ) (ss : List (Option Sdu)) (k : ℕ) → get_or (drop n ss) k None ≡ get_or ss (n + k) None
 dropped zero ss k = ap (λ (i : ℕ). get_or ss i None) (let same : k ≡ 0 + k = omega arith in same)
 dropped (suc n) [] k = refl
 dropped (suc n) (s ∷ ss) k = dropped n ss k ∙ ap (λ (i : ℕ). get_or (s ∷ ss) i None) (let same : suc (n + k) ≡ suc n + k = omega arith in same)

@@ -34,7 +34,7 @@ use Rattle.item_law.specs.State.{Chain as ItemChain, Tables as ItemTables}
 use Rattle.item_law.specs.Live.{LiveTowards, LiveOverRelay}
 use Rattle.item_law.specs.Steps.{Arrives, key_for, complete_end, discard_end, IsOpenAtEnd, EndRoutes}
 use Rattle.item_law.proofs.base.Apart.{relay_goal}
-use Rattle.item_law.proofs.kept.Invariant.{is_past_relay}
+use Rattle.item_law.proofs.kept.Invariant.{is_past_relay, Route}
 use Rattle.item_law.proofs.laws.Handed.{arrives_for_owner}
 use Rattle.item_law.proofs.Inductive.{reaches_inv}
 use Rattle.item_place.specs.Places.{Link, FirstBy, SecondBy, IsSpot, first, slot, queue, second}
@@ -84,9 +84,13 @@ module _ (t : Contents) (i : Item) (x : Spot) (f : ℕ) where
   }
 
 -- an item on its second hop bears an identity
-bears : (g : Ghost) (v : View) (st : Stands g v) (k : ℕ) (i : Item) → g.chain.items k ≡ Some i → (to : Remote) (own : ℕ) → g.chain.spot k ≡ OnSecondHop to own → (u : LocalId)
+pub bears : (g : Ghost) (v : View) (st : Stands g v) (k : ℕ) (i : Item) → g.chain.items k ≡ Some i → (to : Remote) (own : ℕ) → g.chain.spot k ≡ OnSecondHop to own → (u : LocalId)
     × (i.goal ≡ ToRelay u)
 bears g v st k i is to own spot = relay_goal i.goal (((reaches_inv (item_tables v.tables) (calm g.chain) st.reaches).each k i is).over (ap is_past_relay spot))
+
+-- and was routed for its own remote
+pub for_own : (g : Ghost) (v : View) (st : Stands g v) (k : ℕ) (i : Item) → g.chain.items k ≡ Some i → (to : Remote) (own : ℕ) → g.chain.spot k ≡ OnSecondHop to own → to ≡ i.key.remote
+for_own g v st k i is to own spot = subst (λ (x : Spot). Route g.chain.path i x (way_of i)) spot ((reaches_inv (item_tables v.tables) (calm g.chain) st.reaches).each k i is).route
 
 module _ (g : Ghost) (v : View) (st : Stands g v) (e : Entity) (number : ℕ) (bytes : List ℕ) (tx : Tx) (rx : Rx) (x : ℕ) (sdu : List ℕ) where
   abbrev a : ItemChain
@@ -165,6 +169,20 @@ module _ (g : Ghost) (v : View) (st : Stands g v) (e : Entity) (number : ℕ) (b
                 (subst (λ (key : Key). Arrives a k key i.content new) (sym (its_key i q home)) arrives);
           }
 
+      -- where the gNB attaches its identity to a remote whose bearer has this channel, that bearer takes it
+      gnb_routed : (fault : RouteFault) → GnbRoute v.tables.maps (v.attached AtGnb) c head.ue head.bearer (Err fault) → (r : Remote) (row : MapRow)
+          → map_row v.tables r i.key.drb ≡ Some row → row.uu ≡ c → goal_at (a.path r) kinds.Gnb ≡ ToRelay id.0 → ⊥
+      gnb_routed fault missing r row its_row same goal =
+          no_way_over g v st (key_in Ul) kinds.Gnb c id.0 head.bearer i.key.drb r row mine.1 its_row same fault (λ q at. at)
+          (subst (λ (u : ℕ). GnbRoute v.tables.maps (v.attached AtGnb) c u head.bearer (Err fault)) mine.0 missing) goal
+
+      pub gnb_keeps : (fault : RouteFault) → GnbRoute v.tables.maps (v.attached AtGnb) c head.ue head.bearer (Err fault)
+          → ((x : Item) → a.items k ≡ Some x → goal_at (a.path x.key.remote) kinds.Gnb ≡ x.goal) → ⊥
+      gnb_keeps fault missing attached =
+          let by : SecondBy v.tables i Ul f.to f.own (Uu c) e.epoch = f.by in
+          gnb_routed fault missing f.to by.0 by.1 (sym (uu_chan c by.0.uu by.2))
+          (ap (λ (r : Remote). goal_at (a.path r) kinds.Gnb) (for_own g v st k i gnb_item.1 f.to f.own f.spot) ∙ attached i gnb_item.1 ∙ id.1)
+
       pub gnb_loses : (fault : RouteFault) → GnbRoute v.tables.maps (v.attached AtGnb) c head.ue head.bearer (Err fault)
           → Refines v.tables g (record v { entity = put_at is_side is_port v.entity High (Uu c) (Some (record e { tx = tx; rx = rx })) })
       gnb_loses fault missing =
@@ -174,9 +192,7 @@ module _ (g : Ghost) (v : View) (st : Stands g v) (e : Entity) (number : ℕ) (b
           (λ r routes. let z : EndRoutes T a i Ul f.to r = subst (λ (w : Way). EndRoutes T a i w f.to r) f.way routes in
           let row = row_with v r i.key.drb z.1.chan z.1.second in
           let same : z.1.chan ≡ by.0.uu = same_Some z.1.chan by.0.uu (sym z.1.first ∙ ap (option_map uu_of) by.1) in
-          no_way_over g v st (key_in Ul) kinds.Gnb c id.0 head.bearer i.key.drb r row.0 mine.1 row.1 (row.2 ∙ same ∙ sym (uu_chan c by.0.uu by.2)) fault (λ q at. at)
-          (subst (λ (u : ℕ). GnbRoute v.tables.maps (v.attached AtGnb) c u head.bearer (Err fault)) mine.0 missing)
-          (z.0 ∙ id.1))
+          gnb_routed fault missing r row.0 row.1 (row.2 ∙ same ∙ sym (uu_chan c by.0.uu by.2)) (z.0 ∙ id.1))
           refl)
           st.ends
 
@@ -251,15 +267,25 @@ module _ (g : Ghost) (v : View) (st : Stands g v) (e : Entity) (number : ℕ) (b
                 (subst (λ (key : Key). Arrives a m key j.content new) (sym (its_key j r home)) arrives);
           }
 
+      -- where its own identity is that of the item it takes it
+      remote_routed : (fault : RouteFault) → RemoteRoute v.tables.maps own.0 r c head.ue head.bearer (Err fault) → goal_at (a.path r) kinds.Remote ≡ ToRelay its_id.0 → ⊥
+      remote_routed fault missing goal =
+          no_way_in g v st r own c its_id.0 head.bearer j.key.drb its_by.0 has_own told.1 (ap (λ (q : Remote). map_row v.tables q j.key.drb) to_remote ∙ its_by.1)
+          (sym (pc5_chan r s.to c its_by.0.pc5 its_by.2)) fault
+          (subst (λ (u : ℕ). RemoteRoute v.tables.maps own.0 r c u head.bearer (Err fault)) told.0 missing) goal
+
+      pub remote_keeps : (fault : RouteFault) → RemoteRoute v.tables.maps own.0 r c head.ue head.bearer (Err fault)
+          → ((x : Item) → a.items m ≡ Some x → goal_at (a.path x.key.remote) kinds.Remote ≡ x.goal) → ⊥
+      remote_keeps fault missing attached =
+          remote_routed fault missing
+          (ap (λ (q : Remote). goal_at (a.path q) kinds.Remote) (to_remote ∙ for_own g v st m j remote_item.1 s.to s.own s.spot) ∙ attached j remote_item.1 ∙ its_id.1)
+
       pub remote_loses : (fault : RouteFault) → RemoteRoute v.tables.maps own.0 r c head.ue head.bearer (Err fault)
           → Refines v.tables g (record v { entity = put_at is_side is_port v.entity Low (Pc5 r c) (Some (record e { tx = tx; rx = rx })) })
       remote_loses fault missing =
           left g v st Dl (Pc5 r c) e is_open number bytes tx rx x sdu h Lost tt refl a.sender a.heard v.outgoing v.incoming
           (discard_end m j s.to s.own remote_item.1 s.spot (subst (λ (w : Way). IsOpenAtEnd a w s.to s.own) (sym s.way) opens_end)
           (λ q routes. let z : EndRoutes T a j Dl s.to q = subst (λ (w : Way). EndRoutes T a j w s.to q) s.way routes in
-          no_way_in g v st r own c its_id.0 head.bearer j.key.drb its_by.0 has_own told.1 (ap (λ (q : Remote). map_row v.tables q j.key.drb) to_remote ∙ its_by.1)
-          (sym (pc5_chan r s.to c its_by.0.pc5 its_by.2)) fault
-          (subst (λ (u : ℕ). RemoteRoute v.tables.maps own.0 r c u head.bearer (Err fault)) told.0 missing)
-          (ap (λ (q : Remote). goal_at (a.path q) kinds.Remote) (to_remote ∙ sym z.0) ∙ z.1 ∙ its_id.1))
+          remote_routed fault missing (ap (λ (q : Remote). goal_at (a.path q) kinds.Remote) (to_remote ∙ sym z.0) ∙ z.1 ∙ its_id.1))
           refl)
           st.ends

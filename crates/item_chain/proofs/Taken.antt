@@ -51,33 +51,33 @@ pub record Taken (g : Ghost) (v : View) (st : Stands g v) (N : ℕ) (name : Node
   pub step : (new : ItemChain) → Arrives g.chain N item.key item.content new → Step (item_tables v.tables) g.chain new
 
 -- the end that sends the other way is the one that receives this way
-back_source : (key : Key) → source (back key) ≡ sink key
+pub back_source : (key : Key) → source (back key) ≡ sink key
 back_source key = by key.way refl
   where
     by : (w : Way) → key.way ≡ w → source (back key) ≡ sink key
     by Ul e = ap (λ (w : Way). source (key_of key.remote key.drb (flip w))) e ∙ sym (ap (λ (w : Way). sink (key_of key.remote key.drb w)) e)
     by Dl e = ap (λ (w : Way). source (key_of key.remote key.drb (flip w))) e ∙ sym (ap (λ (w : Way). sink (key_of key.remote key.drb w)) e)
 
-flip_twice : (w : Way) → flip (flip w) ≡ w
+pub flip_twice : (w : Way) → flip (flip w) ≡ w
 flip_twice Ul = refl
 flip_twice Dl = refl
 
-key_is : (a b : Key) → a.remote ≡ b.remote → a.drb ≡ b.drb → a.way ≡ b.way → a ≡ b
+pub key_is : (a b : Key) → a.remote ≡ b.remote → a.drb ≡ b.drb → a.way ≡ b.way → a ≡ b
 key_is a b r d w = ap (λ (x : Remote). key_of x a.drb a.way) r ∙ ap (λ (x : Drb). key_of b.remote x a.way) d ∙ ap (key_of b.remote b.drb) w
 
-same_sn : (a b : ℕ) (x y : List ℕ) → Sdu a x ≡ Sdu b y → a ≡ b
+pub same_sn : (a b : ℕ) (x y : List ℕ) → Sdu a x ≡ Sdu b y → a ≡ b
 same_sn a b x y e = cc
 
-same_body : (a b : ℕ) (x y : List ℕ) → Sdu a x ≡ Sdu b y → x ≡ y
+pub same_body : (a b : ℕ) (x y : List ℕ) → Sdu a x ≡ Sdu b y → x ≡ y
 same_body a b x y e = cc
 
-same_fmc : (a b : ℕ) (x y : List ℕ) → ReportPdu a x ≡ ReportPdu b y → a ≡ b
+pub same_fmc : (a b : ℕ) (x y : List ℕ) → ReportPdu a x ≡ ReportPdu b y → a ≡ b
 same_fmc a b x y e = cc
 
-same_map : (a b : ℕ) (x y : List ℕ) → ReportPdu a x ≡ ReportPdu b y → x ≡ y
+pub same_map : (a b : ℕ) (x y : List ℕ) → ReportPdu a x ≡ ReportPdu b y → x ≡ y
 same_map a b x y e = cc
 
-no_both : (a b : ℕ) (x y : List ℕ) → Sdu a x ≡ ReportPdu b y → ⊥
+pub no_both : (a b : ℕ) (x y : List ℕ) → Sdu a x ≡ ReportPdu b y → ⊥
 no_both a b x y e = cc
 
 module _ (l : PduLaws) (g : Ghost) (old : Chain) (st : Stands g (view old)) (way : Way) (name : PortName) (side : PortSide)

@@ -8,7 +8,11 @@
 //! statement.
 #![tactic(auto)]
 
+mod fed_laws;
 mod foundations;
 mod laws;
+mod run_laws;
 
+pub use fed_laws::runs_are_fed;
 pub use laws::{lines_go_by_item_steps, opened_chains_stand};
+pub use run_laws::{reports_tell_all, runs_stand, steps_go_by_item_steps};

@@ -3,13 +3,11 @@ use Rattle.std.proofs.Common.{◌≡◌, ℕ, true, false, List, [], ◌∷◌, 
 use Rattle.std.proofs.lemmas.Bool.{false≢true}
 use Rattle.std.proofs.lemmas.List.Elements.{recursion_from_All}
 use Rattle.std.specs.Prelude.{Result}
-use Rattle.link_base.specs.declared.names.Key.{Key}
-use Rattle.bearer_map.specs.declared.rows.BearerRow.{BearerRow}
 use Rattle.bearer_map.specs.Contents.{Contents}
 use Rattle.bearer_map.specs.declared.rows.TableFault.{TableFault}
 use Rattle.script_text.specs.declared.event.Event.{Event}
 use Rattle.script_text.specs.declared.line.Line.{Line}
-use Rattle.script_text.specs.declared.line.Line.TheVariants.{Path, Go, Submit, Drain}
+use Rattle.script_text.specs.declared.line.Line.TheVariants.{Path, Go, Submit}
 use Rattle.script_text.specs.declared.reply.Reply.{Reply}
 use Rattle.script_text.specs.declared.reply.Reply.TheVariants.{Ok as OkReply}
 use Rattle.script_text.specs.declared.stage.Part.{Part}
@@ -20,11 +18,9 @@ use Rattle.script_text.specs.History.{Entry, trace}
 use Rattle.script_text.specs.Lines.{part_of}
 use Rattle.script_text.specs.Stages.{after, entered, is_past_go, part_after, tables_after}
 use Rattle.script_text.specs.Texts.{entry_text}
-use Rattle.chain_model.specs.Book.{IsBook}
-use Rattle.chain_model.specs.Carried.{IsRowOf, Carried as AreCarriedPdus}
-use Rattle.chain_model.specs.Runs.{Turn, entries, contents, Behaves, Turns, LeadsTo}
+use Rattle.chain_model.specs.Carried.{Carried as AreCarriedPdus}
+use Rattle.chain_model.specs.Runs.{Turn, entries, contents, Turns, LeadsTo}
 use Rattle.chain_model.specs.State.{Chain, opened}
-use Rattle.book_law.specs.Laws.{HandsUpInOrder}
 use Rattle.node_end.specs.Direct.{AreDirect, BeginsDirect}
 use Rattle.chain_core.specs.Chain.{is_direct_line}
 use Rattle.call_law.specs.Lines.{keeps_direct, EachKeepsDirect}
@@ -33,6 +29,7 @@ use Rattle.player.specs.declared.player_state.Progress.TheVariants.{Carried}
 use Rattle.player.specs.Carried.{is_carried}
 use Rattle.player.specs.Ended.{is_ended}
 use Rattle.player.proofs.Complete.{never_ended}
+use Rattle.player.proofs.RunLines.{each_line}
 use Rattle.player.specs.Carrying.{CanCarry, CanOpen, is_end}
 use Rattle.player.specs.Foundations.{LineLaws, RunLaws}
 use Rattle.player.specs.Plays.{chain_or, turn_of, AreCarried, Plays, ReadsText}
@@ -95,27 +92,13 @@ reads_on p q mid text line events reply h out out' parsed carried same turns run
   added ∙ ap (λ (l : List ℕ). l ++ entry_text line events reply) written,
 )
 
--- a line that is carried out has no lines of a drain before it
-no_inner : (line : Line) (old : Chain) (inner : List Entry) (events : List Event) (reply : Reply) (new : Chain) → is_carried line ≡ true → Behaves old inner line events reply new → inner ≡ []
-no_inner Drain old inner events reply new carried x = absurd (false≢true carried)
-no_inner line old inner events reply new carried x = x.0
-
-none_inner : (part : Part) (stage : ScriptStage) (old : Chain) (t : Turn) (new : Chain) → is_carried t.entry.line ≡ true → Turns part stage old t new → t.inner ≡ []
-none_inner Running stage old t new carried x = no_inner t.entry.line old t.inner t.entry.events t.entry.reply new carried x
-none_inner Start stage old t new carried x = x.0
-none_inner Tables stage old t new carried x = x.0
-none_inner Ended stage old t new carried x = x.0
-
 -- a line that is carried out keeps to direct paths
 direct_line : (line : Line) → is_carried line ≡ true → keeps_direct line ≡ true
 direct_line (Path remote goal) carried = carried
 direct_line line carried = cc
 
 keeps_to_direct : (h : List Turn) (stage : ScriptStage) (c : Chain) → LeadsTo h stage c → AreCarried h → EachKeepsDirect (entries h)
-keeps_to_direct [] stage c leads carried = tt
-keeps_to_direct (t ∷ h) stage c (s, before, older, stands, turns) (one, more) =
-    subst (λ (inner : List Entry). EachKeepsDirect (t.entry ∷ inner ++ entries h)) (sym (none_inner (part_of t.entry.line) stage before t c one turns))
-    (direct_line t.entry.line one, keeps_to_direct h s before older more)
+keeps_to_direct = each_line (λ line. keeps_direct line ≡ true) direct_line
 
 -- a line behind go that is carried out is one of direct ports, or the end
 direct_or_end : (line : Line) → is_carried line ≡ true → part_of line ≡ Running → is_end line ≡ false → is_direct_line line ≡ true
@@ -152,13 +135,6 @@ module _ (laws : LineLaws) (p : Player) (mid : ScriptStage) (text : List ℕ) (l
 -- the tables of a run are direct ones
 tables_direct : RunLaws → (h : List Turn) (stage : ScriptStage) (c : Chain) → LeadsTo h stage c → AreCarried h → AreDirect c.tables
 tables_direct laws h stage c leads carried = subst AreDirect (sym (laws.declared h stage c leads)) (laws.direct h stage c leads (keeps_to_direct h stage c leads carried))
-
--- a run keeps the book of each bearer
-pub keeps_books : RunLaws → (h : List Turn) (stage : ScriptStage) (c : Chain) → LeadsTo h stage c → AreCarried h
-    → (row : BearerRow) (key : Key) → IsRowOf c.tables key row → IsBook row key (entries h) × HandsUpInOrder (entries h) key
-keeps_books laws h stage c leads carried =
-    laws.books h stage c leads (recursion_from_All BeginsDirect c.tables.remotes (tables_direct laws h stage c leads carried).paths)
-    (laws.still (entries h) (keeps_to_direct h stage c leads carried))
 
 -- its data PDUs carry what its ends gave
 pub carries_pdus : RunLaws → (h : List Turn) (stage : ScriptStage) (c : Chain) → LeadsTo h stage c → AreCarried h → AreCarriedPdus c.tables (entries h)

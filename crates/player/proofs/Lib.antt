@@ -1,3 +1,4 @@
+pub mod RunLines
 pub mod Carrying
 pub mod Totals
 pub mod RunUnderWay

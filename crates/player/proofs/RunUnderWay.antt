@@ -24,7 +24,8 @@ use Rattle.player.specs.Plays.{IsLater, Plays, ReadsText, chain_or}
 use Rattle.player.specs.Turns.{TurnsAt, StopsAtEnd, Finishes}
 use Rattle.player.specs.Runs.{IsRun, Stops, IsBadNext, last_text, own_entry}
 use Rattle.player.proofs.Totals.{totals}
-use Rattle.player.proofs.Carrying.{keeps_books, carries_pdus}
+use Rattle.player.proofs.Carrying.{carries_pdus}
+use Rattle.player.proofs.RunLines.{keeps_books, has_sound_replies, hands_up_all}
 
 -- the chain of a player
 abbrev chain_at : Player → Chain
@@ -137,6 +138,8 @@ module _ (laws : RunLaws) where
         hand_ups = laws.exact g.history p.stage (chain_at p) g.plays.leads;
         pdus = carries_pdus laws g.history p.stage (chain_at p) g.plays.leads g.plays.carried;
         reports = laws.reports g.history p.stage (chain_at p) g.plays.leads;
+        replies = has_sound_replies laws g.history p.stage (chain_at p) g.plays.leads g.plays.carried;
+        quiet = hands_up_all laws g.history p.stage (chain_at p) g.plays.leads g.plays.carried;
         stops = stops;
       }
 

@@ -22,6 +22,8 @@ use Rattle.chain_model.specs.Heard.{HandsUpExactly}
 use Rattle.chain_model.specs.Runs.{Turn, entries, Stands, LeadsTo}
 use Rattle.chain_model.specs.State.{Chain}
 use Rattle.book_law.specs.Laws.{HandsUpInOrder}
+use Rattle.item_run.specs.Laws.{HandsUpAllWhenQuiet}
+use Rattle.item_run.specs.Replies.{RepliesAreSound}
 use Rattle.player.specs.declared.play.Ending.{Ending}
 use Rattle.player.specs.declared.play.Ending.TheVariants.{Done, Later, Bad, TooLong}
 use Rattle.player.specs.Carried.{is_carried}
@@ -78,6 +80,8 @@ pub record IsRun (input : List ℕ) (ending : Ending) (out : List ℕ) : Type 0 
   pub hand_ups : (row : BearerRow) (key : Key) → IsRowOf chain.tables key row → HandsUpExactly chain.tables row key (entries history)
   pub pdus : Carried chain.tables (entries history)
   pub reports : ReportsTruly chain.tables (entries history)
+  pub replies : RepliesAreSound (entries history)
+  pub quiet : HandsUpAllWhenQuiet history chain
   pub stops : Stops (length texts) (entries history) stage chain used rest ending out
 
 -- lines lead from the start of a script to a stage, where each that isn't skipped stands where it may and is carried out

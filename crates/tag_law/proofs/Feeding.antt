@@ -67,7 +67,8 @@ module _ (x : NodeName) (t : Contents) where
 
   report_own : (old : Node) (key : Key) (given : List Key) (new : Node) → FeedsReport t old (incoming old key) given new → NodeOwn x old → NodeOwn x new
   report_own old key given new (unwanted not_wanted none is) own = own_same x old new is own
-  report_own old key given new (dropped wanted cannot none is) own = subst (NodeOwn x) (sym is) (own_alike x old (set_incoming old (record (incoming old key) { wanted = false })) refl (λ q. refl) own)
+  report_own old key given new (dropped wanted cannot none is) own = subst (NodeOwn x) (sym is) (own_alike x old (set_incoming old (record
+      (incoming old key) { wanted = false })) refl (λ q. refl) own)
   report_own old key given new (no_room wanted can full none is) own = own_same x old new is own
   report_own old key given new (gives_report wanted can room g one) own =
       let mid = pdu_own old _ _ _ g.mid g.gives (λ count its. absurd (none-some count its)) own in

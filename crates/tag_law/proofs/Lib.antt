@@ -1,4 +1,14 @@
 pub mod Nodes
 pub mod Feeding
+pub mod Calls
+pub mod Senders
+pub mod Kept
+pub mod KeptFeeding
+pub mod KeptSwitching
 pub mod Lines
+pub mod KeptOpened
 pub mod TheLaw
+pub mod TheKept
+pub mod Opens
+pub mod OpensOpened
+pub mod TheOpen

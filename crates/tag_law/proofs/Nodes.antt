@@ -34,7 +34,7 @@ use Rattle.node_model.specs.State.{PortSide, Node, entity_of, side_at, entity_at
 use Rattle.node_model.proofs.Names.{cases_port}
 use Rattle.chain_law.specs.Calls.{KeepsTags, HearingKeeps, GrantingKeeps, ExpiryKeeps, HearLeavesKept}
 use Rattle.chain_law.proofs.Nodes.{side_set}
-use Rattle.direct_run_law.proofs.Ends.{entity_set, entity_other}
+use Rattle.direct_run_law.proofs.Ends.{NodeSame, entity_set, entity_other, same_entity, same_itself, same_then}
 use Rattle.direct_run_law.proofs.Beside.{follows_stand}
 
 -- what chain_law proves of the calls of an entity
@@ -78,7 +78,8 @@ module _ (x : NodeName) where
     is_open : entity_at old port ≡ Some entity
     is_open = ap (option_and_then entity_of) its.here ∙ its.is_open
 
-    pub own_entity : ((remote : Remote) (drb : Drb) → port ≡ Direct remote drb → KeepsOwn x remote drb entity.tx → KeepsOwn x remote drb now.tx) → NodeOwn x (set_entity old side now)
+    pub own_entity : ((remote : Remote) (drb : Drb) → port ≡ Direct remote drb → KeepsOwn x remote drb entity.tx → KeepsOwn x remote drb now.tx)
+        → NodeOwn x (set_entity old side now)
     own_entity keeps = record {
       outs = own.outs;
       tags = λ remote drb e is. elim (cases_port (Direct remote drb) port) [
@@ -93,11 +94,13 @@ module _ (x : NodeName) where
     pub own_called : KeepsTags entity.tx now.tx → NodeOwn x (set_entity old side now)
     own_called keeps = own_entity (λ remote drb is had. tags_own x remote drb entity.tx now.tx keeps had)
 
-  pub granted_own : CallLaws → (old : Node) (port : PortName) (octets epoch : ℕ) (answer : HopGrant) (new : Node) → GrantsSide old port octets epoch answer new → NodeOwn x old → NodeOwn x new
+  pub granted_own : CallLaws → (old : Node) (port : PortName) (octets epoch : ℕ) (answer : HopGrant) (new : Node) → GrantsSide old port octets epoch answer new
+      → NodeOwn x old → NodeOwn x new
   granted_own laws old port octets epoch answer new g own = subst (NodeOwn x) (sym g.is)
       (own_called old port g.side g.entity (record g.entity { tx = g.tx; rx = g.rx }) g.its own (laws.granting g.entity.tx g.entity.rx octets answer g.tx g.rx g.grants).0)
 
-  pub expired_own : CallLaws → (old : Node) (port : PortName) (timer : Timer) (expired : Expired) (new : Node) → ExpiresSide old port timer expired new → NodeOwn x old → NodeOwn x new
+  pub expired_own : CallLaws → (old : Node) (port : PortName) (timer : Timer) (expired : Expired) (new : Node) → ExpiresSide old port timer expired new → NodeOwn x old
+      → NodeOwn x new
   expired_own laws old port timer expired new s own = subst (NodeOwn x) (sym s.is)
       (own_called old port s.side s.entity (record s.entity { tx = s.tx; rx = s.rx }) s.its own (laws.expiry s.entity.tx s.entity.rx timer expired s.tx s.rx s.expires).0)
 
@@ -120,7 +123,8 @@ module _ (x : NodeName) where
       by (hop.BadAmd fault) l = stays l.0
       by (hop.BadStatus fault) l = stays l.0
 
-  pub heard_own : CallLaws → (t : Contents) (old : Node) (at : Side) (pdu : Pdu) (answer : NodeHeard) (new : Node) → HearsPdu t old at pdu answer new → NodeOwn x old → NodeOwn x new
+  pub heard_own : CallLaws → (t : Contents) (old : Node) (at : Side) (pdu : Pdu) (answer : NodeHeard) (new : Node) → HearsPdu t old at pdu answer new → NodeOwn x old
+      → NodeOwn x new
   heard_own laws t old at pdu answer new hears own = by (hear_refusal pdu (side_at old pdu.port)) hears
     where
       by : (refusal : Option NodeHeard) → HearsUnless refusal t old at pdu answer new → NodeOwn x new
@@ -147,12 +151,14 @@ module _ (x : NodeName) where
             subst (λ (k : Kept). IsOwn x remote drb k.tag) (same_Some last k (sym (get_or_push entity.tx.kept (Some last) None n place) ∙ at)) (mine remote drb is)
       ])
 
--- a node that hears keeps its name
-pub heard_name : (t : Contents) (old : Node) (at : Side) (pdu : Pdu) (answer : NodeHeard) (new : Node) → HearsPdu t old at pdu answer new → new.name ≡ old.name
-heard_name t old at pdu answer new hears = by (hear_refusal pdu (side_at old pdu.port)) hears
+-- a node that hears keeps its name, its keys, its attachments and its ports
+pub heard_same : (t : Contents) (old : Node) (at : Side) (pdu : Pdu) (answer : NodeHeard) (new : Node) → HearsPdu t old at pdu answer new → NodeSame old new
+heard_same t old at pdu answer new hears = by (hear_refusal pdu (side_at old pdu.port)) hears
   where
-    by : (refusal : Option NodeHeard) → HearsUnless refusal t old at pdu answer new → new.name ≡ old.name
-    by (Some refusal) h = ap (λ (m : Node). m.name) h.1
+    by : (refusal : Option NodeHeard) → HearsUnless refusal t old at pdu answer new → NodeSame old new
+    by (Some refusal) h = subst (NodeSame old) (sym h.1) (same_itself old)
     by None h =
         let now : PortSide = record h.side { entity = Some h.behind } in
-        (follows_stand t (set_entity old h.side h.behind) pdu.port now (side_set old pdu.port h.side now h.its.here refl).here at h.hop answer new h.follows).same.name
+        let mid = set_entity old h.side h.behind in
+        same_then old mid new (same_entity old h.side h.behind)
+        (follows_stand t mid pdu.port now (side_set old pdu.port h.side now h.its.here refl).here at h.hop answer new h.follows).same

@@ -6,4 +6,6 @@
 
 mod laws;
 
-pub use laws::direct_ports_keep_their_tags;
+pub use laws::{
+    direct_paths_are_open, direct_ports_keep_their_tags, direct_ports_keep_unconfirmed,
+};

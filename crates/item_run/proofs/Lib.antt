@@ -1,0 +1,16 @@
+pub mod Coming
+pub mod Honest
+pub mod Keeping
+pub mod Strange
+pub mod Taking
+pub mod Fine
+pub mod Replying
+pub mod Drained
+pub mod Runs
+pub mod Sound
+pub mod FirstSides
+pub mod Resting
+pub mod Quiet
+pub mod AllUp
+pub mod Good
+pub mod TheLaws
