@@ -79,8 +79,19 @@ class Maker:
             return self.rng.randint(1, self.chain.made + 2)
         return self.rng.choice(here[:3] if self.rng.random() < 0.7 else here)
 
+    def move(self):
+        """A push or a pull of the relay, mostly one that moves an SDU."""
+        relay, rng = self.chain.nodes['relay'], self.rng
+        moves = ['push ' + ref.port_text(p) for p, slot in relay.slot.items() if slot]
+        moves += ['pull ' + ref.port_text(p) for p, queue in relay.queue.items() if queue]
+        if moves and rng.random() < 0.9:
+            return rng.choice(moves)
+        return '%s %s' % (rng.choice(['push', 'pull']), ref.port_text(self.port()))
+
     def choose(self):
         rng, chain = self.rng, self.chain
+        if self.kind in ('relay', 'switch') and rng.random() < 0.2:
+            return self.move()
         keys = list(chain.keys())
         if self.kind == 'one':
             keys = keys[:1]
@@ -102,9 +113,7 @@ class Maker:
             return 'expire d1.1 low poll'
         if what < 0.93:
             return 'report %d %d %s' % key
-        if self.kind in ('relay', 'switch') and (self.kind == 'relay' or what < 0.97):
-            return '%s %s' % (rng.choice(['push', 'pull']), ref.port_text(self.port()))
-        if self.kind == 'switch':
+        if self.kind == 'switch' and what < 0.96:
             r = key[0]
             if chain.is_open(r):
                 return 'apply %d %s' % (r, rng.choice(['remote', 'relay', 'gnb']))

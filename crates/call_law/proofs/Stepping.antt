@@ -1,43 +1,32 @@
--- Behind each run on direct ports each line can be carried out.
-use Rattle.std.proofs.Common.{◌≡◌, inl, inr, ℕ, suc, ◌≤◌, ◌<◌, ◌==◌, Bool, true, false, ◌&&◌, ◌||◌, List, [], ◌∷◌, length, slice_index_or, Option, Some, is_some, option_and_then, refl, sym, ◌∙◌, ap, subst, arith, Contains, All}
+-- Behind each run each line can be carried out.
+use Rattle.std.proofs.Common.{◌≡◌, inl, inr, ℕ, suc, ◌≤◌, ◌==◌, Bool, true, ◌&&◌, ◌||◌, List, [], ◌∷◌, slice_index_or, find, Option, Some, None, is_some, option_and_then, refl, sym, ◌∙◌, ap, arith, Contains}
 use Rattle.std.specs.List.{list_any}
-use Rattle.std.proofs.lemmas.Bool.{and_parts, cases_Bool, eqb-true, false≢true}
+use Rattle.std.proofs.lemmas.Bool.{and_parts, cases_Bool, cond-true, cond-false, eqb-true, false≢true}
+use Rattle.std.proofs.lemmas.Option.{none-some, same_Some}
 use Rattle.std.proofs.lemmas.List.{get_or_default}
-use Rattle.std.proofs.lemmas.List.Elements.{recursion_from_All}
 use Rattle.link_base.specs.declared.names.Drb.{Drb}
 use Rattle.link_base.specs.declared.names.Key.{Key}
-use Rattle.link_base.specs.declared.names.PortName.{PortName}
-use Rattle.link_base.specs.declared.names.Side.{Side}
 use Rattle.link_base.specs.declared.names.SnSize.{SnSize}
 use Rattle.link_base.specs.declared.names.SnSize.TheVariants.{S12, S18}
 use Rattle.link_base.specs.SequenceNumbers.{window}
 use Rattle.bearer_map.specs.declared.rows.BearerRow.{BearerRow}
 use Rattle.bearer_map.specs.Contents.{Contents}
 use Rattle.rlc_model.specs.Sides.{Entity}
-use Rattle.script_text.specs.declared.event.Event.{Event}
-use Rattle.script_text.specs.declared.line.Line.{Line}
-use Rattle.script_text.specs.declared.reply.Reply.{Reply}
 use Rattle.script_text.specs.declared.stage.ScriptStage.{ScriptStage}
-use Rattle.node_model.specs.Names.{NodeName, is_remote, source, sink}
-use Rattle.node_model.specs.State.{PortSide, Node, entity_at, entity_of, outgoing_at, incoming_at, no_node}
+use Rattle.node_model.specs.Names.{NodeName, is_remote, is_port, source, sink}
+use Rattle.node_model.specs.State.{PortSide, Node, side_at, entity_at, entity_of, outgoing_at, incoming_at}
 use Rattle.node_model.specs.Tables.{has_bearer}
 use Rattle.node_model.proofs.Names.{remote_is}
 use Rattle.node_ports.specs.Sides.{IsSmall}
-use Rattle.node_end.specs.Direct.{BeginsDirect, AreDirect}
-use Rattle.node_end.specs.Feeding.{HasNumbers}
-use Rattle.chain_model.specs.State.{Chain, node_at, entity_on}
-use Rattle.chain_model.specs.Runs.{Turn, entries, contents, LeadsTo}
+use Rattle.chain_model.specs.State.{Chain, node_at}
+use Rattle.chain_model.specs.Runs.{Turn, entries, LeadsTo}
 use Rattle.chain_model.specs.Carried.{IsRowOf}
 use Rattle.chain_model.proofs.Lookups.{here}
-use Rattle.chain_model.specs.Steps.{Does}
 use Rattle.chain_law.specs.Laws.{ComesUp, behind, unfed, IsWithinTickets}
-use Rattle.direct_run_law.specs.Direct.{NoneSwitches}
 use Rattle.chain_core.specs.Chain.{HasEnds, HasSmallNumbers}
 use Rattle.chain_core.specs.Nodes.{HaveNumbers}
 use Rattle.call_law.specs.Foundations.{RunLaws}
-use Rattle.call_law.specs.Lines.{EachKeepsDirect, CanStep}
-use Rattle.call_law.specs.Laws.{StepsCanBeCarriedOut, KeptLinesCanBeCarriedOut}
-use Rattle.call_law.proofs.Declared.{kept_lines, tables_are_declared, tables_are_direct}
+use Rattle.call_law.specs.Laws.{StepsCanBeCarriedOut}
 
 -- one of a list passes
 any_passes : {X : Type 0} (test : X → Bool) (xs : List X) → list_any test xs ≡ true → (x : X) × Contains xs x × (test x ≡ true)
@@ -49,6 +38,21 @@ any_passes test (x ∷ xs) any = elim (cases_Bool (test x)) [
       let at = later.1 in
       (later.0, (suc at.0, omega (arith, at.1), at.2), later.2)
 ]
+
+-- what is found among items is one of them
+found_among : {X : Type 0} (test : X → Bool) (xs : List X) (x : X) → find test xs ≡ Some x → Contains xs x
+found_among test [] x found = absurd (none-some x found)
+found_among test (y ∷ xs) x found = elim (cases_Bool (test y)) [
+  | inl passes ↦ (0, omega arith, sym (same_Some x y (sym found ∙ cond-true (test y) (Some y) (find test xs) passes)))
+  | inr fails ↦
+      let at = found_among test xs x (sym (cond-false (test y) (Some y) (find test xs) fails) ∙ found) in
+      (suc at.0, omega (arith, at.1), at.2)
+]
+
+-- a side that is open has its entity
+its_side : (side : Option PortSide) (e : Entity) → option_and_then entity_of side ≡ Some e → (s : PortSide) × (side ≡ Some s) × (s.entity ≡ Some e)
+its_side None e is = absurd (none-some e is)
+its_side (Some s) e is = (s, refl, is)
 
 -- a bearer of the tables has a row
 bearer_row : (t : Contents) (key : Key) → has_bearer t key.remote key.drb ≡ true → (row : BearerRow) × IsRowOf t key row
@@ -75,16 +79,23 @@ within_small c e is = record {
 }
 
 module _ (laws : RunLaws) where
+  -- an entity at a node is that of a side
+  entity_within : (c : Chain) → ComesUp c → (name : NodeName) (s : PortSide) (e : Entity) → Contains (node_at c name).ports s → s.entity ≡ Some e → IsWithinTickets c e
+  entity_within c up name s e among is =
+      let found = laws.found c up name s among in
+      laws.numbers c up found.0 s.name e (ap (λ (x : NodeName). entity_at (node_at c x) s.name) found.1 ∙ ap (option_and_then entity_of) found.2 ∙ is)
+
   small_numbers : (c : Chain) → ComesUp c → HasSmallNumbers c
-  small_numbers c up side port e is = within_small c e (laws.numbers c up side port e is)
+  small_numbers c up name port e is =
+      let ports = (node_at c name).ports in
+      let its = its_side (side_at (node_at c name) port) e is in
+      within_small c e (entity_within c up name its.0 e (found_among (λ (s : PortSide). is_port port s.name) ports its.0 its.1) its.2)
 
   -- each transmitter has numbers left
   numbers_left : (c : Chain) → ComesUp c → HaveNumbers c.nodes
   numbers_left c up name k d lt e is =
       let s : PortSide = slice_index_or (node_at c name).ports k d in
-      let found = laws.found c up name s (k, lt, get_or_default (node_at c name).ports k s d lt) in
-      let its : entity_on c found.0 s.name ≡ Some e = ap (λ (x : NodeName). entity_at (node_at c x) s.name) found.1 ∙ ap (option_and_then entity_of) found.2 ∙ is in
-      let within = laws.numbers c up found.0 s.name e its in
+      let within = entity_within c up name s e (k, lt, get_or_default (node_at c name).ports k s d lt) is in
       omega (arith, within.given, within.tickets, small_window e.tx.size)
 
   both_ends : (h : List Turn) (stage : ScriptStage) (c : Chain) → LeadsTo h stage c → HasEnds c
@@ -103,16 +114,12 @@ module _ (laws : RunLaws) where
           ap (λ (n : Node). is_some (incoming_at n key)) (here c (sink key) end.node end.its_node) ∙ ap is_some end.its_row
 
   pub steps : StepsCanBeCarriedOut
-  steps h stage c leads direct none = record {
+  steps h stage c leads = record {
     ends = both_ends h stage c leads;
     small = small_numbers c up;
-    tags = laws.tags h stage c leads (recursion_from_All BeginsDirect c.tables.remotes direct.paths) (record { no_pc5 = direct.no_pc5; no_uu = direct.no_uu }) none;
+    tags = laws.tags c up;
     numbers = λ line own reply mid does. numbers_left mid (unfed line own reply up does);
   }
     where
       up : ComesUp c
       up = behind h stage leads
-
-  pub kept_lines_step : KeptLinesCanBeCarriedOut
-  kept_lines_step h stage c leads all =
-      steps h stage c leads (subst AreDirect (sym (tables_are_declared laws h stage c leads)) (tables_are_direct h stage c leads all)) (kept_lines (entries h) all)

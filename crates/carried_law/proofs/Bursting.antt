@@ -1,5 +1,5 @@
 -- What a burst leaves of the SDUs that the relay's transmitters keep.
-use Rattle.std.proofs.Common.{◌≡◌, inl, inr, ℕ, true, false, cond, List, [], ◌∷◌, map, find, Option, Some, None, option_and_then, refl, sym, ◌∙◌, ap, subst}
+use Rattle.std.proofs.Common.{◌≡◌, inl, inr, ℕ, List, [], ◌∷◌, map, find, Option, Some, None, option_and_then, refl, sym, ◌∙◌, ap, subst}
 use Rattle.std.specs.List.{AllByRecursion, AllZip}
 use Rattle.std.proofs.lemmas.Bool.{cases_Bool, cond-true, cond-false}
 use Rattle.std.proofs.lemmas.Option.{same_Some}
@@ -24,9 +24,9 @@ use Rattle.carried_law.proofs.Keeping.{KeepsSdus, sdus_themselves, sdus_then, gi
 
 module _ (May : PortName → List ℕ → Type 0) (Begins : PortName → ℕ → Type 0) where
   -- a side of a port keeps its name, and what its transmitter kept
-  record SideGoes (was now : PortSide) : Type 0 where
-    name : now.name ≡ was.name
-    keeps : SideKeeps (May was.name) (Begins was.name) was.entity now.entity
+  pub record SideGoes (was now : PortSide) : Type 0 where
+    pub name : now.name ≡ was.name
+    pub keeps : SideKeeps (May was.name) (Begins was.name) was.entity now.entity
 
   side_goes : (was now : PortSide) → now.name ≡ was.name → (later : PortSide) → SideGoes was now → SideGoes now later → SideGoes was later
   side_goes was now name later a b = record {
@@ -56,6 +56,41 @@ module _ (May : PortName → List ℕ → Type 0) (Begins : PortName → ℕ →
   sides_go q [] (y ∷ ys) all = absurd all
   sides_go q (x ∷ xs) [] all = absurd all
 
+  -- where each PDU that comes to a node leaves what is kept
+  module _ (c : Chain) (comes : (old : Chain) (pdu : Pdu) (events : List Event) (reply : Reply) (new : Chain) → Comes old pdu events reply new (λ d. d)
+      → NodeKeeps May Begins (node_at old AtRelay) (node_at new AtRelay)) where
+    abbrev pub relay : Node
+    relay = node_at c AtRelay
+
+    -- the relay has a side of this name
+    abbrev pub Has : PortSide → Type 0
+    Has s = (was : PortSide) × (side_at relay s.name ≡ Some was)
+
+    -- the relay with this side is found with it
+    pub with_side_found : (side : PortSide) → Has side → side_at (node_at (with_side c side) AtRelay) side.name ≡ Some side
+    with_side_found side has =
+        ap (λ (n : Node). side_at n side.name) (node_set c AtRelay (set_side relay side) (node_name c AtRelay) relay (node_there c AtRelay side.name has.0 has.1))
+        ∙ (side_set relay side.name has.0 side has.1 (side_name relay side.name has.0 has.1)).here
+
+    treats_go : (pdu : Pdu) (side : PortSide) (reply : Reply) (new : PortSide) → Has side → Treats c pdu side reply new → SideGoes side new
+    treats_go pdu side reply new has t = record {
+      name = sym (side_name (node_at t.1 AtRelay) side.name new t.3);
+      keeps = subst (λ (o : Option PortSide). SideKeeps (May side.name) (Begins side.name) (option_and_then entity_of o) new.entity) (with_side_found side has)
+          (subst (λ (o : Option PortSide). SideKeeps (May side.name) (Begins side.name) (entity_at (node_at (with_side c side) AtRelay) side.name) (option_and_then entity_of o))
+          t.3 ((comes (with_side c side) pdu t.0 reply t.1 t.2).sides side.name));
+    }
+
+    pub ingests_go : {side new : PortSide} {tickets left : List ℕ} {heard : List Event} {put : List Parcel} → Has side → Ingests c side tickets heard put left new
+        → SideGoes side new
+    ingests_go {side} has (ends none) = record { name = refl; keeps = side_itself side.entity side.entity refl }
+    ingests_go {side} has (stops full) = record { name = refl; keeps = side_itself side.entity side.entity refl }
+    ingests_go {side} {new} has (pushes parcel full more) =
+        let s = ingests_go {side = record side { slot = None }} {new = new} has more in
+        record { name = s.name; keeps = s.keeps }
+    ingests_go {side} {new} has (hears {mid = mid} ticket pdu reply none on treats more) =
+        let first = treats_go pdu side reply mid has treats in
+        side_goes side mid first.name new first (ingests_go {side = mid} {new = new} (has.0, ap (side_at relay) first.name ∙ has.1) more)
+
   -- the relay may give all that it holds
   module _ (every : (q : PortName) (sdu : List ℕ) → May q sdu) where
     -- a transmitter is given SDUs
@@ -73,61 +108,31 @@ module _ (May : PortName → List ℕ → Type 0) (Begins : PortName → ℕ →
           subst (λ (x : Entity). KeepsSdus (May q) (Begins q) entity.tx x.tx) same (given_each q entity.tx g.0 parcels g.1),
         )
 
-    -- where each PDU that comes to a node leaves what is kept
+    -- and so each line of a burst
     module _ (c : Chain) (comes : (old : Chain) (pdu : Pdu) (events : List Event) (reply : Reply) (new : Chain) → Comes old pdu events reply new (λ d. d)
         → NodeKeeps May Begins (node_at old AtRelay) (node_at new AtRelay)) where
-      abbrev relay : Node
-      relay = node_at c AtRelay
-
-      -- the relay has a side of this name
-      abbrev Has : PortSide → Type 0
-      Has s = (was : PortSide) × (side_at relay s.name ≡ Some was)
-
-      -- the relay with this side is found with it
-      with_side_found : (side : PortSide) → Has side → side_at (node_at (with_side c side) AtRelay) side.name ≡ Some side
-      with_side_found side has =
-          ap (λ (n : Node). side_at n side.name) (node_set c AtRelay (set_side relay side) (node_name c AtRelay) relay (node_there c AtRelay side.name has.0 has.1))
-          ∙ (side_set relay side.name has.0 side has.1 (side_name relay side.name has.0 has.1)).here
-
-      treats_go : (pdu : Pdu) (side : PortSide) (reply : Reply) (new : PortSide) → Has side → Treats c pdu side reply new → SideGoes side new
-      treats_go pdu side reply new has t = record {
-        name = sym (side_name (node_at t.1 AtRelay) side.name new t.3);
-        keeps = subst (λ (o : Option PortSide). SideKeeps (May side.name) (Begins side.name) (option_and_then entity_of o) new.entity) (with_side_found side has)
-            (subst (λ (o : Option PortSide). SideKeeps (May side.name) (Begins side.name) (entity_at (node_at (with_side c side) AtRelay) side.name) (option_and_then entity_of o))
-            t.3 ((comes (with_side c side) pdu t.0 reply t.1 t.2).sides side.name));
-      }
-
-      ingests_go : {side new : PortSide} {tickets left : List ℕ} {heard : List Event} {put : List Parcel} → Has side → Ingests c side tickets heard put left new
-          → SideGoes side new
-      ingests_go {side} has (ends none) = record { name = refl; keeps = side_itself side.entity side.entity refl }
-      ingests_go {side} has (stops full) = record { name = refl; keeps = side_itself side.entity side.entity refl }
-      ingests_go {side} {new} has (pushes parcel full more) =
-          let s = ingests_go {side = record side { slot = None }} {new = new} has more in
-          record { name = s.name; keeps = s.keeps }
-      ingests_go {side} {new} has (hears {mid = mid} ticket pdu reply none on treats more) =
-          let first = treats_go pdu side reply mid has treats in
-          side_goes side mid first.name new first (ingests_go {side = mid} {new = new} (has.0, ap (side_at relay) first.name ∙ has.1) more)
-
       emits_go : (cap : ℕ) (put : List Parcel) (side : PortSide) (e : Egress) → Emits cap put side e → SideGoes side e.behind
       emits_go cap put side e x = record { name = ap (λ (s : PortSide). s.name) x.is; keeps = given_all side.name side.entity e.behind.entity e.taken x.gives }
 
       all_go : (cap : ℕ) (put : List Parcel) (ports : List PortSide) (ingresses : List Ingress) (egresses : List Egress)
-          → AllByRecursion (λ (s : PortSide). side_at relay s.name ≡ Some s) ports
+          → AllByRecursion (λ (s : PortSide). side_at (relay c comes) s.name ≡ Some s) ports
           → AllZip (λ (side : PortSide) (i : Ingress). Ingests c side (inbox c side.name) i.heard i.put i.left i.behind) ports ingresses
           → AllZip (Emits cap put) (map behind_ingress ingresses) egresses → AllZip SideGoes ports (map behind_egress egresses)
       all_go cap put [] [] [] all first second = tt
       all_go cap put (s ∷ ss) (i ∷ is) (e ∷ es) all first second =
-          let a = ingests_go {side = s} {new = i.behind} (s, all.0) first.0 in
+          let a = ingests_go c comes {side = s} {new = i.behind} (s, all.0) first.0 in
           (side_goes s i.behind a.name e.behind a (emits_go cap put i.behind e second.0), all_go cap put ss is es all.1 first.1 second.1)
       all_go cap put [] [] (e ∷ es) all first second = absurd second
       all_go cap put [] (i ∷ is) es all first second = absurd first
       all_go cap put (s ∷ ss) [] es all first second = absurd first
       all_go cap put (s ∷ ss) (i ∷ is) [] all first second = absurd second
 
-      pub burst_keeps : NodeFits relay → (events : List Event) (reply : Reply) (new : Chain) (b : Bursts c events reply new)
-          → NodeKeeps May Begins relay (record relay { ports = map behind_egress b.egresses })
+      pub burst_keeps : NodeFits (relay c comes) → (events : List Event) (reply : Reply) (new : Chain) (b : Bursts c events reply new)
+          → NodeKeeps May Begins (relay c comes) (record (relay c comes) { ports = map behind_egress b.egresses })
       burst_keeps fits events reply new b = record {
         name = refl;
-        sides = λ q. sides_go q relay.ports (map behind_egress b.egresses)
-            (all_go (queue_capacity c) (all_put b.ingresses) relay.ports b.ingresses b.egresses (all_found relay.ports fits.apart) b.ingest b.emit);
+        outs = refl;
+        ins = refl;
+        sides = λ q. sides_go q (relay c comes).ports (map behind_egress b.egresses)
+            (all_go (queue_capacity c) (all_put b.ingresses) (relay c comes).ports b.ingresses b.egresses (all_found (relay c comes).ports fits.apart) b.ingest b.emit);
       }

@@ -7,14 +7,13 @@ use Rattle.link_base.specs.declared.discard.Discard.{Discard}
 use Rattle.link_base.specs.declared.names.Key.{Key}
 use Rattle.link_base.specs.declared.names.PortName.TheVariants.{Direct}
 use Rattle.link_base.specs.declared.names.Remote.{Remote}
-use Rattle.link_base.specs.declared.names.SnSize.{SnSize}
 use Rattle.link_base.specs.declared.names.Way.{Way}
 use Rattle.link_base.specs.declared.names.Way.TheVariants.{Ul, Dl}
 use Rattle.bearer_map.specs.declared.rows.BearerRow.{BearerRow}
 use Rattle.bearer_map.specs.declared.rows.RemoteRow.{RemoteRow}
 use Rattle.bearer_map.specs.Contents.{Contents, remote_rank}
 use Rattle.bearer_map.specs.Order.{has_row}
-use Rattle.pdcp_pdu.specs.Pdcp.{Pdcp, Sdu, Report, IsPdcp}
+use Rattle.pdcp_pdu.specs.Pdcp.{Pdcp, Sdu, IsPdcp}
 use Rattle.pdcp_model.specs.HandUp.{Hearing, IsHeard as IsHeardOf}
 use Rattle.rlc_model.specs.declared.hop.Pdu.{Pdu}
 use Rattle.rlc_model.specs.declared.receiver.Heard.TheVariants.{Complete}

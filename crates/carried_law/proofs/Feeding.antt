@@ -18,10 +18,9 @@ use Rattle.node_model.specs.Names.{back}
 use Rattle.node_model.specs.State.{Incoming, Outgoing, Node, id_in, id_at, outgoing_at, outgoing, incoming, set_outgoing, set_incoming}
 use Rattle.node_model.proofs.Names.{cases_key}
 use Rattle.chain_model.proofs.Lookups.{outgoing_key, incoming_key}
+use Rattle.chain_law.proofs.Leaving.{NodeSame, in_same, out_kept, out_set, out_there, same_entity, same_in, same_itself, same_out, same_then}
 use Rattle.book_law.proofs.Ends.{out_is}
 use Rattle.book_law.proofs.Senders.{KeepsAll, keeps_itself, keeps_on}
-use Rattle.direct_run_law.proofs.Ends.{NodeSame, same_itself, same_then, same_out, same_in, same_entity}
-use Rattle.direct_run_law.proofs.Feeding.{in_same, out_set, out_kept, out_there}
 use Rattle.carried_law.proofs.Keeping.{NodeKeeps, node_beside, node_itself, node_then, node_set, given_sdus}
 
 -- a node has this SDU to give over a port: the data PDU of an SDU that a sender keeps, or the report of a receiving side
@@ -73,7 +72,7 @@ module _ (t : Contents) (first : Node) (May : PortName → List ℕ → Type 0) 
 
   goes_in : (n : Node) (of : Key) (j : Incoming) → j.key ≡ of → j.receiver ≡ (incoming n of).receiver → Goes n (set_incoming n j)
   goes_in n of j its same = record {
-    keeps = node_beside n (set_incoming n j) refl (λ q. refl);
+    keeps = node_beside n (set_incoming n j) refl refl (same_in n j).ins (λ q. refl);
     rests = record { same = same_in n j; receivers = in_same n of j its same; senders = λ k. keeps_itself (outgoing n k).sender };
   }
 
@@ -140,7 +139,7 @@ module _ (t : Contents) (first : Node) (May : PortName → List ℕ → Type 0) 
         (subst (λ (k : Key). May g.gives.port (under (id_at old k.remote) k.drb (pdcp_bytes o.sender.size (data_pdu_of o.sender (next o.sender) g.sdu)))) (sym its)
         (may_data among (next o.sender) g.sdu g.its g.gives.port (ap (first_hop t old) (sym its) ∙ g.gives.its_port))))
         (subst (Goes g.mid) (sym g.is) (record {
-          keeps = node_beside g.mid (set_outgoing g.mid row) refl (λ q. refl);
+          keeps = node_beside g.mid (set_outgoing g.mid row) refl (same_out g.mid row).outs refl (λ q. refl);
           rests = record {
             same = same_out g.mid row;
             receivers = λ k. refl;

@@ -1,5 +1,5 @@
 -- What a call leaves of the SDUs that a transmitter keeps, and of those of which a byte was sent.
-use Rattle.std.proofs.Common.{◌≡◌, ◌⊎◌, inl, inr, ℕ, ◌<◌, ◌≤◌, true, false, List, [], ◌∷◌, ◌++◌, length, get_or, Option, Some, None, option_and_then, refl, sym, ◌∙◌, ap, subst, arith}
+use Rattle.std.proofs.Common.{◌≡◌, ◌⊎◌, inl, inr, ℕ, ◌<◌, ◌≤◌, true, false, List, [], ◌∷◌, ◌++◌, length, get_or, map, Option, Some, None, option_and_then, refl, sym, ◌∙◌, ap, subst, arith}
 use Rattle.std.proofs.lemmas.Bool.{cases_eq, cases_lt}
 use Rattle.std.proofs.lemmas.Option.{same_Some}
 use Rattle.std.proofs.lemmas.List.{get_or_append_left, get_or_push, length_push}
@@ -31,6 +31,7 @@ use Rattle.node_model.specs.declared.answers.PullReply.{PullReply}
 use Rattle.node_model.specs.declared.answers.PullReply.TheVariants as pulled
 use Rattle.node_model.specs.declared.answers.PushReply.{PushReply}
 use Rattle.node_model.specs.declared.answers.PushReply.TheVariants as pushed
+use Rattle.node_model.specs.Feeding.{in_key, out_key}
 use Rattle.node_model.specs.Hearing.{hear_refusal, HearsUnless, HearsPdu}
 use Rattle.node_model.specs.Relaying.{Pushes, PushesPort, Pulls, PullsPort, parcel_tag}
 use Rattle.node_model.specs.Sides.{IsOpen, GrantsSide, ExpiresSide}
@@ -39,7 +40,7 @@ use Rattle.node_model.proofs.Names.{cases_port}
 use Rattle.chain_law.specs.Calls.{HearLeavesKept}
 use Rattle.chain_law.proofs.Nodes.{side_set}
 use Rattle.chain_law.proofs.Stands.{SideChanges}
-use Rattle.direct_run_law.proofs.Beside.{follows_stand}
+use Rattle.chain_law.proofs.Leaving.{follows_stand}
 use Rattle.carried_law.specs.Foundations.{SentLaws}
 
 -- an SDU was kept under its number before. A byte of it was sent then if one was since, unless the number may begin
@@ -192,26 +193,31 @@ module _ {May : List ℕ → Type 0} {Begins : ℕ → Type 0} where
       let same : now ≡ e = same_Some now e is in
       (entity, is_open, ap (λ (x : Entity). x.epoch) (sym same) ∙ epoch, subst (λ (x : Entity). KeepsSdus May Begins entity.tx x.tx) same keeps)
 
--- so do all sides of a node
+-- so do all sides of a node, and the node has the keys that it had
 pub record NodeKeeps (May : PortName → List ℕ → Type 0) (Begins : PortName → ℕ → Type 0) (old new : Node) : Type 0 where
   pub name : new.name ≡ old.name
+  pub outs : map out_key new.outgoing ≡ map out_key old.outgoing
+  pub ins : map in_key new.incoming ≡ map in_key old.incoming
   pub sides : (q : PortName) → SideKeeps (May q) (Begins q) (entity_at old q) (entity_at new q)
 
 module _ {May : PortName → List ℕ → Type 0} {Begins : PortName → ℕ → Type 0} where
-  pub node_beside : (old new : Node) → new.name ≡ old.name → ((q : PortName) → entity_at new q ≡ entity_at old q) → NodeKeeps May Begins old new
-  node_beside old new name same = record { name = name; sides = λ q. side_itself (entity_at old q) (entity_at new q) (same q) }
+  pub node_beside : (old new : Node) → new.name ≡ old.name → map out_key new.outgoing ≡ map out_key old.outgoing → map in_key new.incoming ≡ map in_key old.incoming
+      → ((q : PortName) → entity_at new q ≡ entity_at old q) → NodeKeeps May Begins old new
+  node_beside old new name outs ins same = record { name = name; outs = outs; ins = ins; sides = λ q. side_itself (entity_at old q) (entity_at new q) (same q) }
 
   pub node_itself : (old new : Node) → new ≡ old → NodeKeeps May Begins old new
-  node_itself old new is = subst (NodeKeeps May Begins old) (sym is) (node_beside old old refl (λ q. refl))
+  node_itself old new is = subst (NodeKeeps May Begins old) (sym is) (node_beside old old refl refl refl (λ q. refl))
 
   pub node_then : (a b c : Node) → NodeKeeps May Begins a b → NodeKeeps May Begins b c → NodeKeeps May Begins a c
-  node_then a b c x y = record { name = y.name ∙ x.name; sides = λ q. side_then (entity_at a q) (entity_at b q) (entity_at c q) (x.sides q) (y.sides q) }
+  node_then a b c x y = record { name = y.name ∙ x.name; outs = y.outs ∙ x.outs; ins = y.ins ∙ x.ins; sides = λ q. side_then (entity_at a q) (entity_at b q) (entity_at c q) (x.sides q) (y.sides q) }
 
   -- a side is set whose transmitter keeps what it kept
   pub side_keeps : (old : Node) (port : PortName) (was now : PortSide) → side_at old port ≡ Some was → now.name ≡ was.name
       → SideKeeps (May port) (Begins port) was.entity now.entity → NodeKeeps May Begins old (set_side old now)
   side_keeps old port was now here name keeps = record {
     name = refl;
+    outs = refl;
+    ins = refl;
     sides = λ q. elim (cases_port q port) [
       | inr ne ↦ side_itself (entity_at old q) (entity_at (set_side old now) q) (ap (option_and_then entity_of) (sets.others q ne))
       | inl this ↦ subst (λ (x : PortName). SideKeeps (May x) (Begins x) (entity_at old x) (entity_at (set_side old now) x)) (sym this)
@@ -225,15 +231,16 @@ module _ {May : PortName → List ℕ → Type 0} {Begins : PortName → ℕ →
 
   node_called : (old : Node) (port : PortName) (side : PortSide) (entity now : Entity) → IsOpen old port side entity → now.epoch ≡ entity.epoch
       → KeepsSdus (May port) (Begins port) entity.tx now.tx
-      → (new : Node) → new.name ≡ old.name → ((q : PortName) → entity_at new q ≡ entity_at (set_entity old side now) q) → NodeKeeps May Begins old new
-  node_called old port side entity now its epoch keeps new name stands = node_then old (set_entity old side now) new
+      → (new : Node) → new.name ≡ old.name → map out_key new.outgoing ≡ map out_key old.outgoing → map in_key new.incoming ≡ map in_key old.incoming
+      → ((q : PortName) → entity_at new q ≡ entity_at (set_entity old side now) q) → NodeKeeps May Begins old new
+  node_called old port side entity now its epoch keeps new name outs ins stands = node_then old (set_entity old side now) new
       (side_keeps old port side (record side { entity = Some now }) its.here refl (called_side side.entity entity now its.is_open epoch keeps))
-      (node_beside (set_entity old side now) new name stands)
+      (node_beside (set_entity old side now) new name outs ins stands)
 
   pub node_set : (old : Node) (port : PortName) (side : PortSide) (entity now : Entity) → IsOpen old port side entity → now.epoch ≡ entity.epoch
       → KeepsSdus (May port) (Begins port) entity.tx now.tx → (new : Node) → new ≡ set_entity old side now → NodeKeeps May Begins old new
   node_set old port side entity now its epoch keeps new is = subst (NodeKeeps May Begins old) (sym is)
-      (node_called old port side entity now its epoch keeps (set_entity old side now) refl (λ q. refl))
+      (node_called old port side entity now its epoch keeps (set_entity old side now) refl refl refl (λ q. refl))
 
   pub grants_keep : (old : Node) (port : PortName) (octets epoch : ℕ) (answer : HopGrant) (new : Node) → ((n : ℕ) → BeginsWith answer n → Begins port n)
       → GrantsSide old port octets epoch answer new → NodeKeeps May Begins old new
@@ -257,7 +264,7 @@ module _ {May : PortName → List ℕ → Type 0} {Begins : PortName → ℕ →
           node_called old pdu.port h.side h.entity h.behind h.its (ap (λ (e : Entity). e.epoch) h.its_entity)
           (subst (λ (e : Entity). KeepsSdus (May pdu.port) (Begins pdu.port) h.entity.tx e.tx) (sym h.its_entity)
           (heard_sdus laws h.entity.tx h.entity.rx pdu.bytes h.hop h.tx h.rx h.hears))
-          new stands.same.name stands.entities
+          new stands.same.name stands.same.outs stands.same.ins stands.entities
 
   -- the relay pushes
   pushes_keep : (old : Node) (port egress : PortName) (new : Node) → Pushes old port egress new → NodeKeeps May Begins old new

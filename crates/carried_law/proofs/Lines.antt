@@ -32,9 +32,10 @@ use Rattle.chain_law.proofs.Bursting.{air_case}
 use Rattle.chain_law.proofs.Chains.{node_in, node_name, node_set, node_kept}
 use Rattle.chain_law.proofs.Counting.{air_long}
 use Rattle.chain_law.proofs.Nodes.{NodeFits}
+use Rattle.chain_law.proofs.Leaving.{same_in, same_out}
 use Rattle.heard_law.proofs.Air.{is_grant as is_sending}
 use Rattle.carried_law.specs.Foundations.{SentLaws}
-use Rattle.carried_law.proofs.Keeping.{BeginsWith, NodeKeeps, node_beside, node_itself, node_then, grants_keep, expires_keep, hears_keeps, push_keeps, pull_keeps}
+use Rattle.carried_law.proofs.Keeping.{NodeKeeps, node_beside, node_itself, node_then, grants_keep, expires_keep, hears_keeps, push_keeps, pull_keeps}
 use Rattle.carried_law.proofs.Feeding.{IsFed, Rests, rests_itself, feeds_go}
 use Rattle.carried_law.proofs.Bursting.{burst_keeps}
 
@@ -58,6 +59,12 @@ is_apply line = false
 abbrev pub is_grant : Line → Bool
 is_grant (Grant port way octets) = true
 is_grant line = false
+
+-- the relay gives its transmitters what it holds
+abbrev pub gives_held : Line → Bool
+gives_held (Pull port) = true
+gives_held Burst = true
+gives_held line = false
 
 -- tickets are made on where nothing goes on the air, a PDU goes off it, or one goes on it
 long_same : (old new : List (Option Pdu)) → new ≡ old → length old ≤ length new
@@ -88,7 +95,7 @@ module _ {May : NodeName → PortName → List ℕ → Type 0} {Begins : NodeNam
   pub chain_beside : (old new : Chain) → length old.air ≤ length new.air → new.nodes ≡ old.nodes → ChainKeeps May Begins old new
   chain_beside old new air nodes = record { air = air; nodes = λ x. node_itself (node_at old x) (node_at new x) (ap (λ (ns : List Node). node_in ns x) nodes) }
 
-  chain_stays : (old new : Chain) → new ≡ old → ChainKeeps May Begins old new
+  pub chain_stays : (old new : Chain) → new ≡ old → ChainKeeps May Begins old new
   chain_stays old new is = subst (ChainKeeps May Begins old) (sym is) (chain_beside old old (long_same old.air old.air refl) refl)
 
   pub chain_then : (a b c : Chain) → ChainKeeps May Begins a b → ChainKeeps May Begins b c → ChainKeeps May Begins a c
@@ -116,7 +123,7 @@ module _ {May : NodeName → PortName → List ℕ → Type 0} {Begins : NodeNam
       name = keeps.name ∙ node_name c y
 
   -- a PDU comes to its node
-  comes_keep : (laws : SentLaws) (old : Chain) (pdu : Pdu) (events : List Event) (reply : Reply) (new : Chain) (behind : Chain → Chain)
+  pub comes_keep : (laws : SentLaws) (old : Chain) (pdu : Pdu) (events : List Event) (reply : Reply) (new : Chain) (behind : Chain → Chain)
       → ((c : Chain) → ChainKeeps May Begins c (behind c)) → Comes old pdu events reply new behind → ChainKeeps May Begins old new
   comes_keep laws old pdu events reply new behind stays c = subst (ChainKeeps May Begins old) (sym c.is) (by (is_handed_over c.answer))
     where
@@ -159,7 +166,7 @@ module _ {May : NodeName → PortName → List ℕ → Type 0} {Begins : NodeNam
       submits : (fault : Option SubmitFault) (key : Key) (sdu : List ℕ) (own : List Event) (reply : Reply) → Submits fault old key sdu own reply mid
           → ChainKeeps May Begins old mid
       submits (Some fault) key sdu own reply s = chain_stays old mid s.2
-      submits None key sdu own reply s = by_is _ s.2 (chain_set old (source key) _ (node_beside _ _ refl (λ q. refl)))
+      submits None key sdu own reply s = by_is _ s.2 (chain_set old (source key) _ (node_beside _ _ refl (same_out (node_at old (source key)) _).outs refl (λ q. refl)))
 
       delivers : (o : Option Pdu) (own : List Event) (reply : Reply) (behind : Chain → Chain) → ((c : Chain) → ChainKeeps May Begins c (behind c))
           → Delivers old o own reply mid behind → ChainKeeps May Begins old mid
@@ -177,38 +184,38 @@ module _ {May : NodeName → PortName → List ℕ → Type 0} {Begins : NodeNam
       beside c is air nodes = by_is c is (chain_beside old c (long_same old.air c.air air) nodes)
 
       -- each line but a grant and an apply, where the relay may give all that it holds
-      pub does_keep : ((q : PortName) (sdu : List ℕ) → May AtRelay q sdu) → (line : Line) (own : List Event) (reply : Reply) → is_apply line ≡ false → is_grant line ≡ false
+      pub does_keep : (line : Line) → (gives_held line ≡ true → (q : PortName) (sdu : List ℕ) → May AtRelay q sdu) → (own : List Event) (reply : Reply) → is_apply line ≡ false → is_grant line ≡ false
           → Does old line own reply mid → ChainKeeps May Begins old mid
-      does_keep all (Submit key sdu) own reply it quiet d = unless (submit_refusal old key) own reply _ (submits (submit_fault (sender_at old key) sdu) key sdu own reply) d
-      does_keep all (Grant port way octets) own reply it quiet d = absurd (true≢false quiet)
-      does_keep all (Deliver ticket) own reply it quiet d = delivers (on_air old.air ticket) own reply (without ticket) (off ticket) d
-      does_keep all (Repeat ticket) own reply it quiet d = delivers (on_air old.air ticket) own reply (λ c. c) (λ c. chain_stays c c refl) d
-      does_keep all (Lose ticket) own reply it quiet d = loses (on_air old.air ticket) ticket own reply d
-      does_keep all (Stage ticket) own reply it quiet d = unless (stage_refusal (on_air old.air ticket)) own reply (Stages old ticket own reply mid) (λ x. beside _ x.2 refl refl) d
-      does_keep all (Expire port at timer) own reply it quiet d = unless (expire_refusal old port at) own reply (Expires old port at timer own reply mid)
+      does_keep (Submit key sdu) all own reply it quiet d = unless (submit_refusal old key) own reply _ (submits (submit_fault (sender_at old key) sdu) key sdu own reply) d
+      does_keep (Grant port way octets) all own reply it quiet d = absurd (true≢false quiet)
+      does_keep (Deliver ticket) all own reply it quiet d = delivers (on_air old.air ticket) own reply (without ticket) (off ticket) d
+      does_keep (Repeat ticket) all own reply it quiet d = delivers (on_air old.air ticket) own reply (λ c. c) (λ c. chain_stays c c refl) d
+      does_keep (Lose ticket) all own reply it quiet d = loses (on_air old.air ticket) ticket own reply d
+      does_keep (Stage ticket) all own reply it quiet d = unless (stage_refusal (on_air old.air ticket)) own reply (Stages old ticket own reply mid) (λ x. beside _ x.2 refl refl) d
+      does_keep (Expire port at timer) all own reply it quiet d = unless (expire_refusal old port at) own reply (Expires old port at timer own reply mid)
           (λ x. by_is (set_node old x.node) x.is (chain_set old (owner at port) x.node (expires_keep (node_at old (owner at port)) port timer x.expired x.node x.expires))) d
-      does_keep all (Push port) own reply it quiet d = by_is (set_node old d.node) d.is
+      does_keep (Push port) all own reply it quiet d = by_is (set_node old d.node) d.is
           (chain_set old AtRelay d.node (push_keeps (queue_capacity old) (node_at old AtRelay) port d.answer d.node d.pushes))
-      does_keep all (Pull port) own reply it quiet d = by_is (set_node old d.node) d.is
-          (chain_set old AtRelay d.node (pull_keeps all (node_at old AtRelay) port d.answer d.node d.pulls))
-      does_keep all Burst own reply it quiet d =
+      does_keep (Pull port) all own reply it quiet d = by_is (set_node old d.node) d.is
+          (chain_set old AtRelay d.node (pull_keeps (all refl) (node_at old AtRelay) port d.answer d.node d.pulls))
+      does_keep Burst all own reply it quiet d =
           let m : Node = record (node_at old AtRelay) { ports = map behind_egress d.egresses } in
           chain_then old (set_node old m) mid
-          (chain_set old AtRelay m (burst_keeps (May AtRelay) (Begins AtRelay) all old (λ c pdu events reply new x. (comes_keep laws c pdu events reply new (λ d. d) (λ d. chain_stays d d refl) x).nodes AtRelay)
+          (chain_set old AtRelay m (burst_keeps (May AtRelay) (Begins AtRelay) (all refl) old (λ c pdu events reply new x. (comes_keep laws c pdu events reply new (λ d. d) (λ d. chain_stays d d refl) x).nodes AtRelay)
           fits own reply mid d))
           (chain_beside (set_node old m) mid (subst (λ (c : Chain). length old.air ≤ length c.air) (sym d.is) (folded_long own old.air)) (ap nodes_of d.is))
-      does_keep all (Report key) own reply it quiet d = unless (report_refusal old key) own reply (Wants old key own reply mid)
-          (λ x. by_is _ x.2 (chain_set old (sink key) _ (node_beside _ _ refl (λ q. refl)))) d
-      does_keep all (PlanLine remote goal) own reply it quiet d = unless (plan_refusal old remote goal) own reply (Plans old remote goal own reply mid) (λ x. beside _ x.is refl refl) d
-      does_keep all (Apply remote kind) own reply it quiet d = absurd (true≢false it)
-      does_keep all line own reply it quiet d = absurd d
+      does_keep (Report key) all own reply it quiet d = unless (report_refusal old key) own reply (Wants old key own reply mid)
+          (λ x. by_is _ x.2 (chain_set old (sink key) _ (node_beside _ _ refl refl (same_in (node_at old (sink key)) _).ins (λ q. refl)))) d
+      does_keep (PlanLine remote goal) all own reply it quiet d = unless (plan_refusal old remote goal) own reply (Plans old remote goal own reply mid) (λ x. beside _ x.is refl refl) d
+      does_keep (Apply remote kind) all own reply it quiet d = absurd (true≢false it)
+      does_keep line all own reply it quiet d = absurd d
 
 -- a node feeds, or there is none
-abbrev FedNode : Contents → Node → Node → Type 0
+abbrev pub FedNode : Contents → Node → Node → Type 0
 FedNode t n m = ((given : List Key) × Feeds t n given m) ⊎ (m ≡ n)
 
 -- of nodes that feed, the one of a name
-fed_in : (t : Contents) (x : NodeName) (ns : List Node) (given : List Key) (ms : List Node) → FeedsAll t ns given ms → FedNode t (node_in ns x) (node_in ms x)
+pub fed_in : (t : Contents) (x : NodeName) (ns : List Node) (given : List Key) (ms : List Node) → FeedsAll t ns given ms → FedNode t (node_in ns x) (node_in ms x)
 fed_in t x [] given ms f = inr (ap (λ (l : List Node). node_in l x) f.1)
 fed_in t x (n ∷ ns) given ms (m, rest, first, more, one, others, are, is) = subst (λ (l : List Node). FedNode t (node_in (n ∷ ns) x) (node_in l x)) (sym is)
     (elim (cases_Bool (is_node x n.name)) [

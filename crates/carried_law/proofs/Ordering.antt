@@ -1,5 +1,5 @@
 -- The numbers of each hop begin in their order, behind each line.
-use Rattle.std.proofs.Common.{◌≡◌, ◌≢◌, inl, inr, ℕ, ◌+◌, ◌<◌, ◌≤◌, ◌==◌, Bool, true, false, cond, List, [], ◌∷◌, ◌++◌, length, map, Option, Some, None, option_and_then, refl, sym, ◌∙◌, ap, subst, arith, lt-ltb}
+use Rattle.std.proofs.Common.{◌≡◌, inl, inr, ℕ, ◌+◌, ◌<◌, ◌≤◌, ◌==◌, Bool, true, false, cond, List, [], ◌∷◌, ◌++◌, length, map, Option, Some, None, option_and_then, refl, sym, ◌∙◌, ap, subst, arith, lt-ltb}
 use Rattle.std.specs.List.{AllByRecursion}
 use Rattle.std.proofs.lemmas.Bool.{cases_Bool, cond-true, cond-false, true≢false, false≢true, eqb-true, eq-eqb, ne_eqb, ltb-true}
 use Rattle.std.proofs.lemmas.Option.{none-some, same_Some}
@@ -35,7 +35,7 @@ use Rattle.node_model.proofs.Names.{owner_side}
 use Rattle.chain_model.specs.Draining.{Moment, entry_of}
 use Rattle.chain_model.specs.Heard.{HopOf, GoesOver, Delivered}
 use Rattle.chain_model.specs.Lines.{Unless, grant_refusal, Sends, Granted, apply_refusal, Applies}
-use Rattle.chain_model.specs.State.{Chain, node_at, entity_on, opened}
+use Rattle.chain_model.specs.State.{Chain, node_at, entity_on}
 use Rattle.chain_model.specs.Steps.{Does}
 use Rattle.chain_model.specs.Told.{air_entry, entry_after, side_epoch}
 use Rattle.chain_law.proofs.Chains.{Holds, node_fits}
@@ -50,7 +50,7 @@ use Rattle.carried_law.specs.Foundations.{SentLaws}
 use Rattle.carried_law.specs.Order.{BeginInOrder}
 use Rattle.carried_law.proofs.Keeping.{BeginsWith, grants_keep}
 use Rattle.carried_law.proofs.Lines.{ChainKeeps, is_apply, is_grant, not_granted, sends_keep, does_keep, fed_keep}
-use Rattle.carried_law.proofs.Sending.{none_shown, nothing_kept}
+use Rattle.carried_law.proofs.Sent.{none_shown, nothing_kept}
 use Rattle.carried_law.proofs.Switching.{applies_side, applies_air}
 
 -- the history shows a data PDU of a number of a hop by this ticket
@@ -351,7 +351,7 @@ module _ (t : Contents) where
       | inr no_apply ↦ elim (cases_Bool (is_grant line)) [
         | inl is ↦ grant line is d
         | inr no_grant ↦ ordered_none h (record { line = line; events = events; reply = reply }) mid (sends_none old mid line reply (not_granted old mid line no_grant))
-            (ordered_on h old mid (does_keep {May = λ x q sdu. Unit {0}} {Begins = λ x q n. ⊥} old mid laws (node_fits old holds AtRelay) (λ q sdu. tt) line own reply
+            (ordered_on h old mid (does_keep {May = λ x q sdu. Unit {0}} {Begins = λ x q n. ⊥} old mid laws (node_fits old holds AtRelay) line (λ is q sdu. tt) own reply
             no_apply no_grant d) (λ x q n begins. begins) o)
       ]
     ]

@@ -1,14 +1,12 @@
 -- The data PDUs that were sent are pieces of one SDU for each number, behind each line.
-use Rattle.std.proofs.Common.{◌≡◌, ◌⊎◌, inl, inr, ℕ, ◌+◌, ◌-◌, ◌%◌, ◌<◌, ◌≤◌, ◌==◌, Bool, true, false, cond, ◌&&◌, List, [], ◌∷◌, ◌++◌, length, get_or, map, Option, Some, None, option_and_then, refl, sym, ◌∙◌, ap, subst, arith}
+use Rattle.std.proofs.Common.{◌≡◌, ◌⊎◌, inl, inr, ℕ, ◌+◌, ◌%◌, ◌≤◌, ◌==◌, Bool, true, false, cond, ◌&&◌, List, [], ◌∷◌, ◌++◌, length, map, Option, Some, None, option_and_then, refl, sym, ◌∙◌, ap, subst, arith}
 use Rattle.std.specs.List.{AllByRecursion}
-use Rattle.std.proofs.lemmas.Bool.{cases_Bool, cond-true, cond-false, true≢false, false≢true, and_parts, and_from, eqb-true, eq-eqb, ne_eqb}
-use Rattle.std.proofs.lemmas.List.{get_or-append-add}
+use Rattle.std.proofs.lemmas.Bool.{cases_Bool, cond-true, cond-false, true≢false, false≢true, and_parts, and_from, eqb-true, eq-eqb}
 use Rattle.std.proofs.lemmas.Option.{none-some, same_Some}
 use Rattle.link_base.specs.declared.names.Node.{Node as NodeKind}
 use Rattle.link_base.specs.declared.names.PortName.{PortName}
 use Rattle.link_base.specs.declared.names.Remote.{Remote}
 use Rattle.link_base.specs.declared.names.Side.{Side}
-use Rattle.link_base.specs.declared.names.Side.TheVariants.{Low, High}
 use Rattle.link_base.specs.declared.names.SnSize.{SnSize}
 use Rattle.link_base.specs.declared.names.Way.{Way}
 use Rattle.link_base.specs.SequenceNumbers.{modulus}
@@ -27,109 +25,44 @@ use Rattle.script_text.specs.declared.event.Event.{Event}
 use Rattle.script_text.specs.declared.line.Line.{Line}
 use Rattle.script_text.specs.declared.line.Line.TheVariants.{Grant, Apply}
 use Rattle.script_text.specs.declared.reply.Reply.{Reply}
-use Rattle.script_text.specs.declared.stage.Part.TheVariants.{Running}
-use Rattle.script_text.specs.Lines.{part_of}
 use Rattle.script_text.specs.History.{Entry}
 use Rattle.node_model.specs.Names.{NodeName, AtRelay, is_port, is_way, owner}
 use Rattle.node_model.specs.Sides.{GrantsSide}
-use Rattle.node_model.specs.State.{PortSide, Node, side_at, entity_of, entity_at}
+use Rattle.node_model.specs.State.{Node, entity_of, entity_at}
 use Rattle.node_model.proofs.Names.{port_is, port_refl, way_is, way_refl}
 use Rattle.chain_model.specs.Draining.{Moment, entry_of}
 use Rattle.chain_model.specs.Lines.{Unless, grant_refusal, Sends, Granted, apply_refusal, Applies}
 use Rattle.chain_model.specs.Sizes.{port_size}
-use Rattle.chain_model.specs.State.{Chain, node_at, set_node, entity_on, opened}
+use Rattle.chain_model.specs.State.{Chain, node_at, entity_on, opened}
 use Rattle.chain_model.specs.Steps.{Does, Step}
 use Rattle.chain_model.specs.Told.{air_entry, entry_after, side_epoch}
 use Rattle.chain_law.specs.Entities.{RlcFits}
 use Rattle.chain_law.proofs.Chains.{Holds, node_fits, node_name, node_there, node_set}
 use Rattle.chain_law.proofs.Laws.{rlc_fits}
-use Rattle.chain_law.proofs.Opened.{opened_holds, side_new}
+use Rattle.chain_law.proofs.Opened.{opened_holds}
 use Rattle.chain_law.proofs.Runs.{AnyTicket, never_said, nothing_into, does_hold, step_holds}
 use Rattle.chain_law.proofs.Stands.{nothing_said}
 use Rattle.chain_law.proofs.Tables.{TablesApart}
+use Rattle.chain_law.proofs.Leaving.{entity_set}
 use Rattle.book_law.proofs.Tables.{tables_stay}
 use Rattle.book_law.specs.Past.{Goes, steps, drained, ended, Passes, IsDeclaration, AreTables}
-use Rattle.direct_run_law.proofs.Ends.{entity_set}
 use Rattle.heard_law.specs.Telling.{Tells}
 use Rattle.heard_law.proofs.Air.{SendsNone, is_grant as is_sending, sends_none, grant_refused}
 use Rattle.heard_law.proofs.Along.{passes_told, tells}
 use Rattle.heard_law.proofs.Knowing.{Knows}
 use Rattle.carried_law.specs.Foundations.{SentLaws}
 use Rattle.carried_law.specs.Pieces.{IsPieceOf}
-use Rattle.carried_law.proofs.Keeping.{KeepsSdus}
 use Rattle.carried_law.proofs.Feeding.{IsFed}
 use Rattle.carried_law.proofs.Lines.{ChainKeeps, is_apply, is_grant, not_granted, does_keep, grant_keeps, fed_keep}
 use Rattle.carried_law.proofs.Switching.{applies_side, own_epoch, epoch_rises, plan_later}
+use Rattle.carried_law.proofs.Sent.{Origins, IsKeptAs, kept_on, AreSent, sender_from, last_on_air, none_shown, nothing_kept}
 
--- what is said, behind a history, of the SDUs that were given to a hop
-abbrev pub Origins : Type 1
-Origins = List Entry → PortName → Way → List ℕ → Type 0
-
--- a transmitter was given a number, and keeps no other SDU under it than this one
-pub record IsKeptAs (sdu : List ℕ) (n : ℕ) (tx : Tx) : Type 0 where
-  pub below : n < tx_next tx
-  pub same : (k : Kept) → kept_at tx n ≡ Some k → k.sdu ≡ sdu
-
-kept_on : {May : List ℕ → Type 0} {Begins : ℕ → Type 0} (sdu : List ℕ) (n : ℕ) (old new : Tx) → KeepsSdus May Begins old new → IsKeptAs sdu n old → IsKeptAs sdu n new
-kept_on sdu n old new keeps is = record {
-  below = omega (arith, is.below, keeps.long);
-  same = λ k at. elim (keeps.kept n k at) [
-    | inl was ↦ was.sdu ∙ is.same was.was was.here
-    | inr new ↦ absurd (omega (arith, new.later, is.below))
-  ];
-}
-
--- the data PDUs that were sent are pieces of SDUs, no open transmitter keeps another SDU under the number of one, and each is of an epoch to which its side has come. Of
--- each SDU that an open transmitter keeps, and of each that was sent, this is said
-pub record AreSent (origins : Origins) (t : Contents) (h : List Entry) (c : Chain) : Type 0 where
-  pub sdu_of : PortName → Way → ℕ → ℕ → List ℕ
-  pub pieces : (ticket : ℕ) (pdu : Pdu) → air_entry h ticket ≡ Some pdu → pdu.status ≡ false
-      → IsPieceOf t (sdu_of pdu.port pdu.way pdu.epoch pdu.number) pdu
-  pub kept : (ticket : ℕ) (pdu : Pdu) → air_entry h ticket ≡ Some pdu → pdu.status ≡ false
-      → (e : Entity) → entity_on c (sender_of pdu.way) pdu.port ≡ Some e → e.epoch ≡ pdu.epoch → IsKeptAs (sdu_of pdu.port pdu.way pdu.epoch pdu.number) pdu.number e.tx
-  pub epochs : (ticket : ℕ) (pdu : Pdu) → air_entry h ticket ≡ Some pdu → pdu.epoch ≤ side_epoch (sender_of pdu.way) pdu.port h
-  pub given : (side : Side) (port : PortName) (e : Entity) → entity_on c side port ≡ Some e → (n : ℕ) (k : Kept) → kept_at e.tx n ≡ Some k → origins h port (way_from side) k.sdu
-  pub origin : (ticket : ℕ) (pdu : Pdu) → air_entry h ticket ≡ Some pdu → pdu.status ≡ false → origins h pdu.port pdu.way (sdu_of pdu.port pdu.way pdu.epoch pdu.number)
-
--- the side that sends in the way in which a side sends
-sender_from : (side : Side) → sender_of (way_from side) ≡ side
-sender_from Low = refl
-sender_from High = refl
-
--- what goes on the air is there
-last_on_air : (air : List (Option Pdu)) (x : Pdu) → on_air (air ++ Some x ∷ []) (length air + 1) ≡ Some x
-last_on_air air x = cond-false (length air + 1 == 0) None (get_or (air ++ Some x ∷ []) (length air + 1 - 1) None) (ne_eqb (length air + 1) 0 (λ e. omega (arith, e)))
-    ∙ ap (λ (n : ℕ). get_or (air ++ Some x ∷ []) n None) at ∙ get_or-append-add air (Some x ∷ []) 0 None
-  where
-    at : length air + 1 - 1 ≡ length air + 0
-    at = omega arith
-
--- a line that declares tables sends none
-none_declared : (line : Line) (reply : Reply) → (part_of line ≡ Running → ⊥) → SendsNone line reply
-none_declared (Grant port way octets) reply not_running = absurd (not_running refl)
-none_declared line reply not_running = λ h ticket before. refl
-
-pub none_shown : (h : List Entry) → AllByRecursion IsDeclaration h → (ticket : ℕ) → air_entry h ticket ≡ None
-none_shown [] all ticket = refl
-none_shown (e ∷ h) all ticket = none_declared e.line e.reply all.0.part h ticket (air_entry h ticket) ∙ none_shown h all.1 ticket
-
--- at the start no transmitter keeps an SDU
-pub nothing_kept : (t : Contents) (side : Side) (q : PortName) (e : Entity) → entity_on (opened t) side q ≡ Some e → (n : ℕ) (k : Kept) → kept_at e.tx n ≡ Some k → ⊥
-nothing_kept t side q e is n k at = by (side_at (node_at (opened t) (owner side q)) q) refl is
-  where
-    by : (o : Option PortSide) → side_at (node_at (opened t) (owner side q)) q ≡ o → option_and_then entity_of o ≡ Some e → ⊥
-    by None here is = none-some e is
-    by (Some s) here is = elim (side_new t (owner side q) q s here).entity [
-      | inl none ↦ none-some e (sym none ∙ is)
-      | inr some ↦ none-some k (ap (λ (x : Entity). kept_at x.tx n) (same_Some _ e (sym some ∙ is)) ∙ at)
-    ]
-
-module _ (origins : Origins) (more : (e : Entry) (h : List Entry) (port : PortName) (way : Way) (sdu : List ℕ) → origins h port way sdu → origins (e ∷ h) port way sdu)
-    (t : Contents) where
+module _ (origins : Origins) (more : (e : Entry) (h : List Entry) (port : PortName) (way : Way) (epoch n : ℕ) (sdu : List ℕ) → origins h port way epoch n sdu
+    → origins (e ∷ h) port way epoch n sdu) (t : Contents) where
   -- transmitters keep what they kept, and what they were given is of such an origin
   sent_on : {May : NodeName → PortName → List ℕ → Type 0} {Begins : NodeName → PortName → ℕ → Type 0} (h : List Entry) (old new : Chain) → ChainKeeps May Begins old new
-      → ((side : Side) (q : PortName) (was e : Entity) → entity_on old side q ≡ Some was → entity_on new side q ≡ Some e → (sdu : List ℕ) → May (owner side q) q sdu
-      → origins h q (way_from side) sdu)
+      → ((side : Side) (q : PortName) (e : Entity) → entity_on new side q ≡ Some e → (n : ℕ) (k : Kept) → kept_at e.tx n ≡ Some k → May (owner side q) q k.sdu
+      → origins h q (way_from side) e.epoch n k.sdu)
       → AreSent origins t h old → AreSent origins t h new
   sent_on h old new keeps so s = record {
     sdu_of = s.sdu_of;
@@ -142,8 +75,9 @@ module _ (origins : Origins) (more : (e : Entry) (h : List Entry) (port : PortNa
     given = λ side q e is n k at.
         let was = (keeps.nodes (owner side q)).sides q e is in
         elim (was.3.kept n k at) [
-          | inl x ↦ subst (origins h q (way_from side)) (sym x.sdu) (s.given side q was.0 was.1 n x.was x.here)
-          | inr new ↦ so side q was.0 e was.1 is k.sdu new.allowed
+          | inl x ↦ subst (λ (epoch : ℕ). origins h q (way_from side) epoch n k.sdu) (sym was.2)
+              (subst (origins h q (way_from side) was.0.epoch n) (sym x.sdu) (s.given side q was.0 was.1 n x.was x.here))
+          | inr new ↦ so side q e is n k at new.allowed
         ];
     origin = s.origin;
   }
@@ -156,13 +90,14 @@ module _ (origins : Origins) (more : (e : Entry) (h : List Entry) (port : PortNa
     kept = λ ticket pdu shown. s.kept ticket pdu (sym (none h ticket (air_entry h ticket)) ∙ shown);
     epochs = λ ticket pdu shown. omega
         (arith, s.epochs ticket pdu (sym (none h ticket (air_entry h ticket)) ∙ shown), epoch_rises e h (sender_of pdu.way) pdu.port);
-    given = λ side q x is n k at. more e h q (way_from side) k.sdu (s.given side q x is n k at);
-    origin = λ ticket pdu shown data_pdu. more e h pdu.port pdu.way (s.sdu_of pdu.port pdu.way pdu.epoch pdu.number)
+    given = λ side q x is n k at. more e h q (way_from side) x.epoch n k.sdu (s.given side q x is n k at);
+    origin = λ ticket pdu shown data_pdu. more e h pdu.port pdu.way pdu.epoch pdu.number (s.sdu_of pdu.port pdu.way pdu.epoch pdu.number)
         (s.origin ticket pdu (sym (none h ticket (air_entry h ticket)) ∙ shown) data_pdu);
   }
 
   -- a grant sends a PDU
-  module _ (laws : SentLaws) (h : List Entry) (old mid : Chain) (told : Tells h old) (holds : Holds nothing_said mid) (tables : mid.tables ≡ t) (port : PortName) (way : Way) (octets : ℕ)
+  module _ (laws : SentLaws) (h : List Entry) (old mid : Chain) (told : Tells h old) (holds : Holds nothing_said mid) (tables : mid.tables ≡ t) (port : PortName) (way : Way)
+      (octets : ℕ)
       (events : List Event) (reply : Reply) where
     abbrev entry : Entry
     entry = record { line = Grant port way octets; events = events; reply = reply }
@@ -242,8 +177,8 @@ module _ (origins : Origins) (more : (e : Entry) (h : List Entry) (port : PortNa
       pieces = λ ticket pdu shown data_pdu. was.pieces ticket pdu (before ticket pdu shown data_pdu) data_pdu;
       kept = λ ticket pdu shown data_pdu. was.kept ticket pdu (before ticket pdu shown data_pdu) data_pdu;
       epochs = epochs_on epoch node true number bytes g s was;
-      given = λ side q e is n k at. more entry h q (way_from side) k.sdu (was.given side q e is n k at);
-      origin = λ ticket pdu shown data_pdu. more entry h pdu.port pdu.way (was.sdu_of pdu.port pdu.way pdu.epoch pdu.number)
+      given = λ side q e is n k at. more entry h q (way_from side) e.epoch n k.sdu (was.given side q e is n k at);
+      origin = λ ticket pdu shown data_pdu. more entry h pdu.port pdu.way pdu.epoch pdu.number (was.sdu_of pdu.port pdu.way pdu.epoch pdu.number)
           (was.origin ticket pdu (before ticket pdu shown data_pdu) data_pdu);
     }
       where
@@ -332,14 +267,15 @@ module _ (origins : Origins) (more : (e : Entry) (h : List Entry) (port : PortNa
         ]
 
         -- the SDU that is sent was kept, and so it has its origin
-        its_origin : origins (entry ∷ h) port (way_from (sender_of way)) sdu
+        its_origin : origins (entry ∷ h) port (way_from (sender_of way)) epoch number sdu
         its_origin =
             let e = now epoch node false number bytes g s in
             let sent = g.grants.1.2 in
             let open_e = open_now epoch node false number bytes g s in
-            more entry h port (way_from (sender_of way)) sdu
-            (subst (origins h port (way_from (sender_of way))) ((kept_by e open_e (sym g.its_epoch)).same (record sent.kept { flags = sent.flags }) sent.this)
-            (was.given (sender_of way) port e open_e number (record sent.kept { flags = sent.flags }) sent.this))
+            more entry h port (way_from (sender_of way)) epoch number sdu
+            (subst (origins h port (way_from (sender_of way)) epoch number) ((kept_by e open_e (sym g.its_epoch)).same (record sent.kept { flags = sent.flags }) sent.this)
+            (subst (λ (x : ℕ). origins h port (way_from (sender_of way)) x number sent.kept.sdu) (sym g.its_epoch)
+            (was.given (sender_of way) port e open_e number (record sent.kept { flags = sent.flags }) sent.this)))
 
         sends_data : AreSent origins t (entry ∷ h) mid
         sends_data = record {
@@ -357,12 +293,12 @@ module _ (origins : Origins) (more : (e : Entry) (h : List Entry) (port : PortNa
                 (was.kept ticket pdu before data_pdu e is same)
           ];
           epochs = epochs_on epoch node false number bytes g s was;
-          given = λ side q e is n k at. more entry h q (way_from side) k.sdu (was.given side q e is n k at);
+          given = λ side q e is n k at. more entry h q (way_from side) e.epoch n k.sdu (was.given side q e is n k at);
           origin = λ ticket pdu shown data_pdu. elim (shown_as epoch node false number bytes g s ticket pdu shown) [
-            | inl this ↦ subst (λ (p : Pdu). origins (entry ∷ h) p.port p.way (new_sdu p.port p.way p.epoch p.number)) this
-                (subst (origins (entry ∷ h) port (way_from (sender_of way))) (sym new_is) its_origin)
-            | inr before ↦ subst (origins (entry ∷ h) pdu.port pdu.way) (sym (stays ticket pdu before data_pdu))
-                (more entry h pdu.port pdu.way (was.sdu_of pdu.port pdu.way pdu.epoch pdu.number) (was.origin ticket pdu before data_pdu))
+            | inl this ↦ subst (λ (p : Pdu). origins (entry ∷ h) p.port p.way p.epoch p.number (new_sdu p.port p.way p.epoch p.number)) this
+                (subst (origins (entry ∷ h) port (way_from (sender_of way)) epoch number) (sym new_is) its_origin)
+            | inr before ↦ subst (origins (entry ∷ h) pdu.port pdu.way pdu.epoch pdu.number) (sym (stays ticket pdu before data_pdu))
+                (more entry h pdu.port pdu.way pdu.epoch pdu.number (was.sdu_of pdu.port pdu.way pdu.epoch pdu.number) (was.origin ticket pdu before data_pdu))
           ];
         }
 
@@ -380,7 +316,8 @@ module _ (origins : Origins) (more : (e : Entry) (h : List Entry) (port : PortNa
         → AreSent origins t (entry ∷ h) mid
     grants_sent own = by (grant_refusal old port way) refl
       where
-        by : (refusal : Option Reply) → grant_refusal old port way ≡ refusal → Unless refusal old own reply mid (Granted old port way octets own reply mid) → AreSent origins t h mid
+        by : (refusal : Option Reply) → grant_refusal old port way ≡ refusal → Unless refusal old own reply mid (Granted old port way octets own reply mid)
+            → AreSent origins t h mid
             → AreSent origins t (entry ∷ h) mid
         by None is g was = granted g.epoch g.node g.answer g.grants g.sends was
         by (Some r) is u was = silent r u.1 (grant_refused old mid port way octets r is) was
@@ -418,27 +355,29 @@ module _ (origins : Origins) (more : (e : Entry) (h : List Entry) (port : PortNa
         origin = s.origin;
       })
 
-  -- what the relay gives is of such an origin
-  abbrev GivenAtRelay : List Entry → Chain → Type 0
-  GivenAtRelay h c = (side : Side) (q : PortName) (e : Entity) → entity_on c side q ≡ Some e → owner side q ≡ AtRelay → (sdu : List ℕ) → origins h q (way_from side) sdu
+  -- what the relay's transmitters keep is of such an origin
+  abbrev pub KeptAtRelay : List Entry → Chain → Type 0
+  KeptAtRelay h c = (side : Side) (q : PortName) (e : Entity) → entity_on c side q ≡ Some e → owner side q ≡ AtRelay → (n : ℕ) (k : Kept) → kept_at e.tx n ≡ Some k
+      → origins h q (way_from side) e.epoch n k.sdu
 
-  -- so is what the nodes have to give over ports that are open once they have fed
-  abbrev FedSo : List Entry → Chain → Chain → Type 0
-  FedSo h c fed = (side : Side) (q : PortName) (e : Entity) → entity_on fed side q ≡ Some e → (sdu : List ℕ) → IsFed c.tables (node_at c (owner side q)) q sdu
-      → origins h q (way_from side) sdu
+  -- so is what the nodes have to give over ports
+  abbrev pub FedSo : List Entry → Chain → Type 0
+  FedSo h c = (side : Side) (q : PortName) (epoch n : ℕ) (sdu : List ℕ) → IsFed c.tables (node_at c (owner side q)) q sdu → origins h q (way_from side) epoch n sdu
 
   module _ (laws : SentLaws) where
     -- a line, before the nodes feed
-    does_sent : (h : List Entry) (old mid : Chain) → Tells h old → Knows t h old → Holds nothing_said old → Holds nothing_said mid → mid.tables ≡ t → GivenAtRelay h old
-        → (line : Line) (own events : List Event) (reply : Reply) → Does old line own reply mid → AreSent origins t h old
-        → AreSent origins t (record { line = line; events = events; reply = reply } ∷ h) mid
-    does_sent h old mid told knows before holds tables relayed line own events reply d s = elim (cases_Bool (is_apply line)) [
+    does_sent : (h : List Entry) (old mid : Chain) → Tells h old → Knows t h old → Holds nothing_said old → Holds nothing_said mid → mid.tables ≡ t
+        → (line : Line) (own events : List Event) (reply : Reply) → KeptAtRelay (record { line = line; events = events; reply = reply } ∷ h) mid → Does old line own reply mid
+        → AreSent origins t h old → AreSent origins t (record { line = line; events = events; reply = reply } ∷ h) mid
+    does_sent h old mid told knows before holds tables line own events reply relayed d s = elim (cases_Bool (is_apply line)) [
       | inl is ↦ apply line is d
       | inr no_apply ↦ elim (cases_Bool (is_grant line)) [
         | inl is ↦ grant line is d
-        | inr no_grant ↦ sent_none h (record { line = line; events = events; reply = reply }) mid (sends_none old mid line reply (not_granted old mid line no_grant))
-            (sent_on h old mid (does_keep {May = λ x q sdu. x ≡ AtRelay} {Begins = λ x q n. Unit {0}} old mid laws (node_fits old before AtRelay) (λ q sdu. refl) line own reply
-            no_apply no_grant d) (λ side q was e here is sdu at. relayed side q was here at sdu) s)
+        | inr no_grant ↦ sent_on (record { line = line; events = events; reply = reply } ∷ h) old mid
+            (does_keep {May = λ x q sdu. x ≡ AtRelay} {Begins = λ x q n. Unit {0}} old mid laws (node_fits old before AtRelay) line
+            (λ is q sdu. refl) own reply no_apply no_grant d)
+            (λ side q e is n k here at. relayed side q e is at n k here)
+            (sent_none h (record { line = line; events = events; reply = reply }) old (sends_none old mid line reply (not_granted old mid line no_grant)) s)
       ]
     ]
       where
@@ -448,8 +387,8 @@ module _ (origins : Origins) (more : (e : Entry) (h : List Entry) (port : PortNa
 
         grant : (line : Line) → is_grant line ≡ true → Does old line own reply mid → AreSent origins t (record { line = line; events = events; reply = reply } ∷ h) mid
         grant (Grant port way octets) is d = grants_sent laws h old mid told holds tables port way octets events reply own d
-            (sent_on h old mid (grant_keeps {May = λ x q sdu. x ≡ AtRelay} {Begins = λ x q n. Unit {0}} old mid (λ x q n. tt) port way octets
-            own reply d) (λ side q was e here is sdu at. relayed side q was here at sdu) s)
+            (sent_on h old mid (grant_keeps {May = λ x q sdu. ⊥} {Begins = λ x q n. Unit {0}} old mid (λ x q n. tt) port way octets own reply d)
+            (λ side q e is n k here none. absurd none) s)
         grant line is d = absurd (false≢true is)
 
     -- what holds behind each line
@@ -460,29 +399,27 @@ module _ (origins : Origins) (more : (e : Entry) (h : List Entry) (port : PortNa
     rests : (h : List Entry) (e : Entry) (old new : Chain) → is_sending old new e.line ≡ false → new ≡ old → Behind h old → Behind (e ∷ h) new
     rests h e old new no_grant is b = subst (Behind (e ∷ h)) (sym is) (record { sent = sent_none h e old (sends_none old new e.line e.reply no_grant) b.sent; holds = b.holds })
 
-    goes_sent : (h : List Entry) (m : Moment) (new : Chain) → Tells h m.before → Knows t h m.before → new.tables ≡ t
-        → ((s : Step m.before m.entry.line m.entry.events m.entry.reply new) → GivenAtRelay h m.before × FedSo (m.entry ∷ h) s.mid (record s.mid { nodes = s.nodes }))
+    pub goes_sent : (h : List Entry) (m : Moment) (new : Chain) → Tells h m.before → Knows t h m.before → new.tables ≡ t
+        → ((s : Step m.before m.entry.line m.entry.events m.entry.reply new) → KeptAtRelay (m.entry ∷ h) s.mid × FedSo (m.entry ∷ h) s.mid)
         → Goes m.before m.entry new → Behind h m.before → Behind (m.entry ∷ h) new
     goes_sent h m new told knows tables origin_so (steps s) b =
         let e = m.entry in
         let holds_mid = does_hold laws.heard.ports AnyTicket never_said m.before e.line s.own e.reply s.mid (nothing_into m.before e.line s.own) b.holds s.does in
         let mid_tables : s.mid.tables ≡ t = sym (ap (λ (c : Chain). c.tables) s.is) ∙ tables in
-        let mid = does_sent h m.before s.mid told knows b.holds holds_mid mid_tables (origin_so s).0 e.line s.own e.events e.reply s.does b.sent in
+        let mid = does_sent h m.before s.mid told knows b.holds holds_mid mid_tables e.line s.own e.events e.reply (origin_so s).0 s.does b.sent in
         record {
           sent = subst (AreSent origins t (e ∷ h)) (sym s.is) (sent_on (e ∷ h) s.mid (record s.mid { nodes = s.nodes })
               (fed_keep s.mid s.given s.nodes s.feeds {May = λ x q sdu. IsFed s.mid.tables (node_at s.mid x) q sdu} {Begins = λ x q n. Unit {0}} (λ x q sdu given. given))
-              (λ side q was x here is sdu given. (origin_so s).1 side q x is sdu given) mid);
+              (λ side q x is n k here given. (origin_so s).1 side q x.epoch n k.sdu given) mid);
           holds = step_holds laws.heard.ports AnyTicket never_said m.before e.line e.events e.reply new s (nothing_into m.before e.line s.own) b.holds;
         }
     goes_sent h m new told knows tables origin_so (drained line none is whole) b = rests h m.entry m.before new (ap (is_sending m.before new) line) is b
     goes_sent h m new told knows tables origin_so (ended line none says is) b = rests h m.entry m.before new (ap (is_sending m.before new) line) is b
 
-    module _ (apart : TablesApart t) (are : AreTables t) (declared : List Entry) (all : AllByRecursion IsDeclaration declared) (Only : Entry → Type 0)
-        (origin_so : (ms : List Moment) (m : Moment) (new : Chain) → Passes t (m ∷ ms) new → AllByRecursion Only (map entry_of (m ∷ ms))
-        → (s : Step m.before m.entry.line m.entry.events m.entry.reply new)
-        → GivenAtRelay (map entry_of ms ++ declared) m.before × FedSo (m.entry ∷ map entry_of ms ++ declared) s.mid (record s.mid { nodes = s.nodes })) where
-      pub behind_lines : (ms : List Moment) (c : Chain) → Passes t ms c → AllByRecursion Only (map entry_of ms) → Behind (map entry_of ms ++ declared) c
-      behind_lines [] c is only = subst (Behind declared) (sym is) (record {
+    module _ (apart : TablesApart t) (are : AreTables t) (declared : List Entry) (all : AllByRecursion IsDeclaration declared) where
+      -- behind the tables nothing is kept or sent
+      pub begun : Behind declared (opened t)
+      begun = record {
         sent = record {
           sdu_of = λ port way epoch n. [];
           pieces = λ ticket pdu shown. absurd (none-some pdu (sym (none_shown declared all ticket) ∙ shown));
@@ -492,8 +429,14 @@ module _ (origins : Origins) (more : (e : Entry) (h : List Entry) (port : PortNa
           origin = λ ticket pdu shown. absurd (none-some pdu (sym (none_shown declared all ticket) ∙ shown));
         };
         holds = opened_holds t (λ name epoch way. tt) apart;
-      })
-      behind_lines (m ∷ ms) c (before, goes) only =
+      }
+
+      -- behind one line more
+      pub one_more : (ms : List Moment) (m : Moment) (c : Chain) → Passes t (m ∷ ms) c
+          → ((s : Step m.before m.entry.line m.entry.events m.entry.reply c)
+          → KeptAtRelay (m.entry ∷ map entry_of ms ++ declared) s.mid × FedSo (m.entry ∷ map entry_of ms ++ declared) s.mid)
+          → Behind (map entry_of ms ++ declared) m.before → Behind (m.entry ∷ map entry_of ms ++ declared) c
+      one_more ms m c (before, goes) origin_so b =
           let told = passes_told t are declared all ms m.before before in
           goes_sent (map entry_of ms ++ declared) m c (tells t are (map entry_of ms ++ declared) m.before (tables_stay t ms m.before before) told) told.knows
-          (tables_stay t (m ∷ ms) c (before, goes)) (origin_so ms m c (before, goes) only) goes (behind_lines ms m.before before only.1)
+          (tables_stay t (m ∷ ms) c (before, goes)) origin_so goes b

@@ -1,5 +1,5 @@
 -- What an apply leaves: a side of a port is as it was, or opens anew in the epoch of the remote's plan, to which the history hadn't come.
-use Rattle.std.proofs.Common.{◌≡◌, ◌⊎◌, inl, inr, ℕ, ◌+◌, ◌≤◌, Bool, true, false, cond, not, List, ◌∷◌, map, find, Option, Some, None, option_map, option_and_then, refl, sym, ◌∙◌, ap, subst, arith}
+use Rattle.std.proofs.Common.{◌≡◌, ◌⊎◌, inl, inr, ℕ, ◌+◌, ◌≤◌, Bool, true, false, cond, not, List, ◌∷◌, find, Option, Some, None, option_map, option_and_then, refl, sym, ◌∙◌, ap, arith}
 use Rattle.std.specs.Option.{unwrap_or}
 use Rattle.std.proofs.lemmas.Bool.{cases_Bool, cond-true, cond-false, false≢true}
 use Rattle.std.proofs.lemmas.Option.{none-some, same_Some}
@@ -31,7 +31,6 @@ use Rattle.chain_model.specs.Lines.{node_refusal, apply_refusal, closed, Applies
 use Rattle.chain_model.specs.Plans.{has_applied, is_open, marks}
 use Rattle.chain_model.specs.State.{Chain, node_at, set_node, plan_at, set_plan, entity_on}
 use Rattle.chain_model.specs.Told.{kind_of, applies, epoch_at, side_epoch}
-use Rattle.chain_law.specs.Entities.{next_epoch}
 use Rattle.chain_law.proofs.Chains.{node_in, node_name, node_set, node_kept}
 use Rattle.chain_law.proofs.Nodes.{side_name}
 use Rattle.heard_law.proofs.Knowing.{Knows}
@@ -59,14 +58,17 @@ applied_side s remote goal epoch n q e is = by (side_at n q) refl
         ]
 
 -- nodes that learn that a plan is closed keep their sides
-closed_side : (remote : Remote) (b : Bool) (c : Chain) (x : NodeName) (q : PortName) → entity_at (node_at (closed remote b c) x) q ≡ entity_at (node_at c x) q
-closed_side remote true c x q = refl
-closed_side remote false c x q = ap (λ (o : Option Node). entity_at (unwrap_or o (no_node x)) q) (find_map (node_closed remote) (λ (n : Node). is_node x n.name) c.nodes)
+pub closed_ports : (remote : Remote) (b : Bool) (c : Chain) (x : NodeName) → (node_at (closed remote b c) x).ports ≡ (node_at c x).ports
+closed_ports remote true c x = refl
+closed_ports remote false c x = ap (λ (o : Option Node). (unwrap_or o (no_node x)).ports) (find_map (node_closed remote) (λ (n : Node). is_node x n.name) c.nodes)
     ∙ by (find (λ (n : Node). is_node x n.name) c.nodes)
   where
-    by : (o : Option Node) → entity_at (unwrap_or (option_map (node_closed remote) o) (no_node x)) q ≡ entity_at (unwrap_or o (no_node x)) q
+    by : (o : Option Node) → (unwrap_or (option_map (node_closed remote) o) (no_node x)).ports ≡ (unwrap_or o (no_node x)).ports
     by None = refl
     by (Some n) = refl
+
+closed_side : (remote : Remote) (b : Bool) (c : Chain) (x : NodeName) (q : PortName) → entity_at (node_at (closed remote b c) x) q ≡ entity_at (node_at c x) q
+closed_side remote b c x q = ap (λ (ports : List PortSide). option_and_then entity_of (find (λ (s : PortSide). is_port q s.name) ports)) (closed_ports remote b c x)
 
 -- an apply makes no ticket
 pub applies_air : (old mid : Chain) (remote : Remote) (kind : NodeKind) (own : List Event) (reply : Reply) → Applies old remote kind own reply mid → mid.air ≡ old.air

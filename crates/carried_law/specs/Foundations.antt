@@ -1,7 +1,7 @@
--- The laws of PDUs, hops and entities, of what is heard and of direct runs on which the laws of what is sent stand.
+-- The laws of PDUs, hops and entities, and of what the ends of bearers hear, on which the laws of what is sent stand.
 use Rattle.rlc_law.specs.Laws.{KeepsGiven, ConfirmsComplete}
 use Rattle.pdcp_law.specs.Hearings.{TestsReports}
-use Rattle.direct_run_law.specs.Foundations.{HopLaws, CallLaws, BookLaws, PdcpLaws}
+use Rattle.book_law.specs.Laws.{OfEachLine, KeepsBook, HasWhatWasHeard, ReportsTellCounts}
 use Rattle.heard_law.specs.Foundations.{HeardLaws, HearingLaws}
 use Rattle.heard_law.specs.HandingUp.{EachIsOrderly}
 
@@ -11,12 +11,11 @@ pub record SentLaws : Type 0 where
   pub kept : KeepsGiven
   pub confirms : ConfirmsComplete
 
--- what holds of what the receiving ends of bearers hear and report, and of runs on direct ports
-pub record DirectLaws : Type 0 where
-  pub hops : HopLaws
-  pub calls : CallLaws
-  pub books : BookLaws
-  pub pdus : PdcpLaws
+-- what book_law, orderly_law and pdcp_law prove of what the ends of bearers have, hear and report
+pub record EndLaws : Type 0 where
+  pub keeps : OfEachLine KeepsBook
+  pub reports : ReportsTellCounts
+  pub has_heard : HasWhatWasHeard
   pub hearings : HearingLaws
   pub orderly : EachIsOrderly
   pub tests : TestsReports

@@ -1,4 +1,4 @@
 pub mod Pieces
 pub mod Order
-pub mod DirectRuns
+pub mod Carrying
 pub mod Foundations

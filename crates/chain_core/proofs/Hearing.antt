@@ -93,3 +93,7 @@ module _ (t : Contents) (old : Node) (at : Side) (pdu : Pdu) (answer : NodeHeard
       by : (refusal : Option NodeHeard) → hear_refusal pdu (side_at old pdu.port) ≡ refusal → HearsUnless refusal t old at pdu answer new → IsTold answer
       by (Some refusal) is h = subst IsTold (sym h.0) (subst RefusesInWords is (refused_told pdu (side_at old pdu.port))).0
       by None is h = (side_heard h).0
+
+-- and isn't handed over
+pub refused_still : (pdu : Pdu) (side : Option PortSide) (refusal : NodeHeard) → hear_refusal pdu side ≡ Some refusal → is_handed_over refusal ≡ false
+refused_still pdu side refusal is = (subst RefusesInWords is (refused_told pdu side)).1

@@ -1,10 +1,10 @@
-pub mod Names
 pub mod Ends
 pub mod Opening
-pub mod Hearing
-pub mod Lines
 pub mod Feeding
-pub mod Told
-pub mod Confirming
+pub mod Hearing
+pub mod Raising
+pub mod Quiet
+pub mod Carrying
 pub mod Rising
 pub mod Bearers
+pub mod Told

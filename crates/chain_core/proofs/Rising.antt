@@ -19,9 +19,9 @@ use Rattle.node_model.specs.Names.{is_remote, key_of}
 use Rattle.node_model.specs.Tables.{keys, keys_of_row, has_bearer}
 use Rattle.chain_model.specs.State.{Chain, sender_at}
 use Rattle.chain_model.specs.Steps.{confirming, reporting}
-use Rattle.direct_run_law.specs.Own.{HasOwnTags}
-use Rattle.chain_core.specs.Chain.{Carries, Feeds, Plays, is_direct_line, watched, confirmed_of, risen}
-use Rattle.chain_core.proofs.Confirming.{Leaves, line_leaves}
+use Rattle.chain_core.specs.declared.confirming.Watched.{Watched}
+use Rattle.chain_core.specs.Chain.{Carries, Feeds, Plays}
+use Rattle.chain_core.specs.Confirming.{Watches, risen}
 
 abbrev is_ul : Way → Bool
 is_ul Ul = true
@@ -125,30 +125,30 @@ all_quiet f none [] = refl
 all_quiet f none (k ∷ ks) = ap (λ (e : Option Event). cons_option e (filter_map f ks)) (none k) ∙ all_quiet f none ks
 
 -- what is told of the key that is watched is what is told of all
-rise_is : (old mid : Chain) (key : Option Key) → IsAscending bearer_rank old.tables.bearers → Leaves old key mid → risen mid key (confirmed_of old key) ≡ filter_map (confirming old mid) (keys old.tables)
-rise_is old mid None order l =
-    sym (all_quiet (confirming old mid) (λ k. none_rises (confirmed (sender_at old k)) (confirmed (sender_at mid k)) (Conf k (confirmed (sender_at mid k))) (l.others k none)) (keys old.tables))
+rise_is : (old mid : Chain) (watch : Option Watched) → IsAscending bearer_rank old.tables.bearers → Watches old watch mid → risen mid watch ≡ filter_map (confirming old mid) (keys old.tables)
+rise_is old mid None order w =
+    sym (all_quiet (confirming old mid) (λ k. none_rises (confirmed (sender_at old k)) (confirmed (sender_at mid k)) (Conf k (confirmed (sender_at mid k))) (w.others k none)) (keys old.tables))
   where
     none : {k : Key} → None ≡ Some k → ⊥
     none {k} e = none-some k e
-rise_is old mid (Some key) order l =
-    ap (λ (t : Contents). let b = has_bearer t key.remote key.drb in if b && nat_lt (confirmed (sender_at old key)) (confirmed (sender_at mid key)) then Conf key (confirmed (sender_at mid key)) ∷ [] else []) l.tables
+rise_is old mid (Some watched) order w =
+    let key = watched.key in
+    ap (λ (n : ℕ). if has_bearer mid.tables key.remote key.drb && nat_lt n (confirmed (sender_at mid key)) then Conf key (confirmed (sender_at mid key)) ∷ [] else []) w.before
+    ∙ ap (λ (t : Contents). let b = has_bearer t key.remote key.drb in if b && nat_lt (confirmed (sender_at old key)) (confirmed (sender_at mid key)) then Conf key (confirmed (sender_at mid key)) ∷ [] else []) w.tables
     ∙ one_event (has_bearer old.tables key.remote key.drb) (nat_lt (confirmed (sender_at old key)) (confirmed (sender_at mid key))) (Conf key (confirmed (sender_at mid key)))
     ∙ sym (one_told (confirming old mid) key
-    (λ k ne. none_rises (confirmed (sender_at old k)) (confirmed (sender_at mid k)) (Conf k (confirmed (sender_at mid k))) (l.others k (λ e. ne (same_Some key k e)))) old.tables.bearers order)
+    (λ k ne. none_rises (confirmed (sender_at old k)) (confirmed (sender_at mid k)) (Conf k (confirmed (sender_at mid k))) (w.others k (λ e. ne (same_Some key k e)))) old.tables.bearers order)
 
 -- the parts of a step make the step
-pub plays : (old : Chain) (line : Line) (log first second third : List Event) (reply : Reply) (mid new : Chain) (key : Option Key) (before : ℕ) → is_direct_line line ≡ true → HasOwnTags old
-    → Carries old line log first reply mid → key ≡ watched old line → before ≡ confirmed_of old key → second ≡ first ++ risen mid key before → Feeds mid second third new → Plays old line log third reply new
-plays old line log first second third reply mid new key before direct tags c is_key is_before rises f =
-    let l = subst (λ (k : Option Key). Leaves old k mid) (sym is_key) (line_leaves old line c.own reply mid direct tags c.does) in
-    let order : IsAscending bearer_rank old.tables.bearers = subst (λ (t : Contents). IsAscending bearer_rank t.bearers) l.tables f.order.ascend in
+pub plays : (old : Chain) (line : Line) (log first second third : List Event) (reply : Reply) (mid new : Chain) (watch : Option Watched)
+    → Carries old line log first reply mid → Watches old watch mid → second ≡ first ++ risen mid watch → Feeds mid second third new → Plays old line log third reply new
+plays old line log first second third reply mid new watch c w rises f =
+    let order : IsAscending bearer_rank old.tables.bearers = subst (λ (t : Contents). IsAscending bearer_rank t.bearers) w.tables f.order.ascend in
     let rise = filter_map (confirming old mid) (keys old.tables) in
     let given = filter_map (reporting f.given) (keys old.tables) in
-    let told : second ≡ log ++ (c.own ++ rise) =
-    rises ∙ ap (λ (n : ℕ). first ++ risen mid key n) is_before ∙ ap (λ es. first ++ es) (rise_is old mid key order l) ∙ ap (λ es. es ++ rise) c.adds ∙ append_assoc log c.own rise in
+    let told : second ≡ log ++ (c.own ++ rise) = rises ∙ ap (λ es. first ++ es) (rise_is old mid watch order w) ∙ ap (λ es. es ++ rise) c.adds ∙ append_assoc log c.own rise in
     record {
       events = c.own ++ rise ++ given;
       step = record { own = c.own; mid = mid; does = c.does; given = f.given; nodes = f.nodes; feeds = f.feeds; is = f.is; shows = refl };
-      adds = f.adds ∙ ap (λ (t : Contents). second ++ filter_map (reporting f.given) (keys t)) l.tables ∙ ap (λ es. es ++ given) told ∙ append_assoc log (c.own ++ rise) given;
+      adds = f.adds ∙ ap (λ (t : Contents). second ++ filter_map (reporting f.given) (keys t)) w.tables ∙ ap (λ es. es ++ given) told ∙ append_assoc log (c.own ++ rise) given;
     }

@@ -2,8 +2,7 @@
 ghost use Rattle.std.specs.Prelude.{◌≡◌, ◌==◌, ◌&&◌};
 ghost use Rattle.bearer_map.specs.Contents.{pair};
 ghost use Rattle.rlc_model.specs.Sides.{sender_of, hearer_of, way_from};
-ghost use Rattle.node_model.specs.Names.{is_remote, is_key, is_way, key_of};
-ghost use Rattle.chain_core.specs.Chain.{key_sent};
+ghost use Rattle.node_model.specs.Names.{AtRelay, is_remote, is_key, is_node, is_way, key_of, owner};
 
 use bearer_map::BearerRow;
 use link_base::{Drb, Key, PortName, Remote, Side, Way};
@@ -43,14 +42,14 @@ pub(crate) fn key_of(remote: Remote, drb: Drb, way: Way) -> Key
     Key { remote, drb, way }
 }
 
-/// The key that a side of a direct port sends.
-pub(crate) fn key_sent(side: Side, port: PortName) -> Option<Key>
-    ensures { result ≡ key_sent side port }
+/// Whether the relay has this side of a port: the high one of PC5 ports, and the low one of Uu ports.
+pub(crate) fn is_at_relay(side: Side, port: PortName) -> bool
+    ensures { result ≡ is_node AtRelay (owner side port) }
 {
-    match port {
-        PortName::Direct(remote, drb) => Some(key_of(remote, drb, way_from(side))),
-        PortName::Pc5(..) | PortName::Uu(_) => None,
-    }
+    matches!(
+        (side, port),
+        (Side::High, PortName::Pc5(..)) | (Side::Low, PortName::Uu(_))
+    )
 }
 
 /// The side that hears what goes in a way.

@@ -5,7 +5,9 @@
 #![tactic(auto)]
 
 mod chain;
+mod confirming;
 mod keys;
+mod lines;
 mod nodes;
 mod telling;
 

@@ -307,14 +307,14 @@ applied_fits t remote goal epoch n fits = record {
         by false = was
 
 -- a remote's port is at the node of its kind
-owner_is : (remote : Remote) (side : Side) (name : PortName) → is_of remote name ≡ true → owner side name ≡ node_of (kind_of (owner side name)) remote
+pub owner_is : (remote : Remote) (side : Side) (name : PortName) → is_of remote name ≡ true → owner side name ≡ node_of (kind_of (owner side name)) remote
 owner_is remote Low (Direct r d) of = ap AtRemote (sym (remote_is remote r of))
 owner_is remote High (Direct r d) of = refl
 owner_is remote Low (Pc5 r c) of = ap AtRemote (sym (remote_is remote r of))
 owner_is remote High (Pc5 r c) of = refl
 owner_is remote side (Uu c) of = absurd (false≢true of)
 
-kind_is : (kind : NodeKind) (remote : Remote) → kind_of (node_of kind remote) ≡ kind
+pub kind_is : (kind : NodeKind) (remote : Remote) → kind_of (node_of kind remote) ≡ kind
 kind_is kinds.Remote remote = refl
 kind_is kinds.Relay remote = refl
 kind_is kinds.Gnb remote = refl
@@ -346,7 +346,7 @@ marked_up plan kinds.Relay kinds.Gnb = omega arith
 marked_up plan kinds.Gnb kinds.Remote = omega arith
 marked_up plan kinds.Gnb kinds.Relay = omega arith
 
-same_remote : (plan : Plan) (kind : NodeKind) → (marks plan kind).remote ≡ plan.remote
+pub same_remote : (plan : Plan) (kind : NodeKind) → (marks plan kind).remote ≡ plan.remote
 same_remote plan kinds.Remote = refl
 same_remote plan kinds.Relay = refl
 same_remote plan kinds.Gnb = refl

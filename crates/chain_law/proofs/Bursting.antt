@@ -119,7 +119,7 @@ module _ (l : RlcLaws) (c : Chain) {first_said : Logs} (h : Holds first_said c) 
     first_name = sym (side_name relay p first there)
 
     -- a side of which the same is said stands alike
-    resaid : {logs : Logs} (was now : PortSide) → now.name ≡ was.name → shown now ≡ shown was → StandsWith logs (with_one p rest was) → StandsWith logs (with_one p rest now)
+    pub resaid : {logs : Logs} (was now : PortSide) → now.name ≡ was.name → shown now ≡ shown was → StandsWith logs (with_one p rest was) → StandsWith logs (with_one p rest now)
     resaid was now name same s = stands_same _
         (put_alike (view c) AtRelay (with_one p rest was) (with_one p rest now) (λ q own. window_shown (is_port p) rest (alone was) (alone now) q
         (ap (λ (x : PortName). option_map shown (cond (is_port q x) (Some now) None)) name ∙ by (is_port q was.name)))) s
@@ -130,7 +130,7 @@ module _ (l : RlcLaws) (c : Chain) {first_said : Logs} (h : Holds first_said c) 
 
     module _ {IsStaged : ℕ → Type 0} {said : List Event → Logs} (on_and_on : SaysOn c IsStaged said) where
       -- the PDU of a ticket is treated
-      treated : (done : List Event) (side new : PortSide) (ticket : ℕ) (pdu : Pdu) (reply : Reply) → IsStaged ticket → OnItsWay (said done) side → on_air c.air ticket ≡ Some pdu
+      pub treated : (done : List Event) (side new : PortSide) (ticket : ℕ) (pdu : Pdu) (reply : Reply) → IsStaged ticket → OnItsWay (said done) side → on_air c.air ticket ≡ Some pdu
           → is_port p pdu.port ≡ true → Treats c pdu side reply new → OnItsWay (said (done ++ HeardTicket ticket reply ∷ [])) new
       treated done side new ticket pdu reply staged o on over t = by (cases_node x AtRelay)
         where

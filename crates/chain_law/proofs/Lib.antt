@@ -1,6 +1,7 @@
 pub mod Counting
 pub mod Stands
 pub mod Nodes
+pub mod Leaving
 pub mod Feeds
 pub mod Chains
 pub mod Lines

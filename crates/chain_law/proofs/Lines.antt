@@ -271,11 +271,11 @@ module _ (l : RlcLaws) where
 pub plan_name : (c : Chain) (remote : Remote) (p : Plan) → plan_at c remote ≡ Some p → remote ≡ p.remote
 plan_name c remote p e = remote_is remote p.remote (find_passes (λ (p : Plan). is_remote remote p.remote) c.plans p e)
 
-pub plan_was : (c : Chain) (remote : Remote) (last p : Plan) → plan_at c remote ≡ Some last → p.remote ≡ last.remote → (other : Remote) (q : Plan)
-    → plan_at (set_plan c p) other ≡ Some q → ((other ≡ remote) × (q ≡ p)) ⊎ ((other ≡ remote → ⊥) × (plan_at c other ≡ Some q))
-plan_was c remote last p there same other q e = elim (cases_remote other remote) [
-  | inl this ↦ inl (this, sym (same_Some p q (sym (hit other this) ∙ e)))
-  | inr ne ↦ inr (ne, sym (miss other ne) ∙ e)
+pub plan_set : (c : Chain) (remote : Remote) (last p : Plan) → plan_at c remote ≡ Some last → p.remote ≡ last.remote → (other : Remote)
+    → ((other ≡ remote) × (plan_at (set_plan c p) other ≡ Some p)) ⊎ ((other ≡ remote → ⊥) × (plan_at (set_plan c p) other ≡ plan_at c other))
+plan_set c remote last p there same other = elim (cases_remote other remote) [
+  | inl this ↦ inl (this, hit other this)
+  | inr ne ↦ inr (ne, miss other ne)
 ]
   where
     its : p.remote ≡ remote
@@ -291,6 +291,13 @@ plan_was c remote last p there same other q e = elim (cases_remote other remote)
     miss other ne =
         find_miss (λ (x : Plan). is_remote other x.remote) (λ (x : Plan). is_remote p.remote x.remote) p
         (λ x mine. remote_apart other x.remote (λ e. ne (e ∙ sym (remote_is p.remote x.remote mine) ∙ its))) (remote_apart other p.remote (λ e. ne (e ∙ its))) c.plans
+
+pub plan_was : (c : Chain) (remote : Remote) (last p : Plan) → plan_at c remote ≡ Some last → p.remote ≡ last.remote → (other : Remote) (q : Plan)
+    → plan_at (set_plan c p) other ≡ Some q → ((other ≡ remote) × (q ≡ p)) ⊎ ((other ≡ remote → ⊥) × (plan_at c other ≡ Some q))
+plan_was c remote last p there same other q e = elim (plan_set c remote last p there same other) [
+  | inl this ↦ inl (this.0, sym (same_Some p q (sym this.1 ∙ e)))
+  | inr kept ↦ inr (kept.0, sym kept.1 ∙ e)
+]
 
 -- the next plan asks for an epoch to which no node has come
 next_later : (last : Plan) (goal : Goal) (kind : NodeKind) → next_epoch last kind ≤ next_epoch (next_plan last goal) kind

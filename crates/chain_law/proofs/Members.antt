@@ -1,9 +1,9 @@
 -- What is in a list: in two lists together, among what was picked or made, and where a test says so.
 use Rattle.std.proofs.Common.{◌≡◌, ◌⊎◌, inl, inr, ℕ, zero, suc, Bool, true, false, cond, nat_lt, ◌||◌, List, [], ◌∷◌, ◌++◌, map, filter, flat_map, find, Some, None, refl, sym, ◌∙◌, ap, arith}
 use Rattle.std.specs.Prelude.{Contains}
-use Rattle.std.specs.List.{list_any}
-use Rattle.std.proofs.lemmas.Bool.{cases_Bool, cond-true, cond-false, or_parts, or_left, or_right, false≢true}
-use Rattle.std.proofs.lemmas.Option.{none-some}
+use Rattle.std.specs.List.{list_any, list_all, slice_get}
+use Rattle.std.proofs.lemmas.Bool.{cases_Bool, and_parts, cond-true, cond-false, or_parts, or_left, or_right, false≢true}
+use Rattle.std.proofs.lemmas.Option.{none-some, same_Some}
 use Rattle.bearer_map.specs.Order.{in_order}
 
 -- the item is in the list
@@ -15,6 +15,24 @@ pub contained : {T : Type 0} (xs : List T) (x : T) → Contains xs x → IsIn xs
 contained [] x (k, lt, e) = absurd (omega (arith, lt))
 contained (y ∷ ys) x (zero, lt, e) = inl e
 contained (y ∷ ys) x (suc k, lt, e) = inr (contained ys x (k, omega (arith, lt), e))
+
+pub contains : {T : Type 0} (xs : List T) (x : T) → IsIn xs x → Contains xs x
+contains [] x i = absurd i
+contains (y ∷ ys) x (inl e) = (zero, omega arith, e)
+contains (y ∷ ys) x (inr i) = let m = contains ys x i in (suc m.0, omega (arith, m.1), m.2)
+
+-- what is found, or read at a place
+pub found_in : {T : Type 0} (test : T → Bool) (xs : List T) (x : T) → find test xs ≡ Some x → IsIn xs x
+found_in test [] x e = absurd (none-some x e)
+found_in test (y ∷ ys) x e = elim (cases_Bool (test y)) [
+  | inl p ↦ inl (same_Some y x (sym (cond-true (test y) (Some y) (find test ys) p) ∙ e))
+  | inr f ↦ inr (found_in test ys x (sym (cond-false (test y) (Some y) (find test ys) f) ∙ e))
+]
+
+pub get_in : {T : Type 0} (xs : List T) (k : ℕ) (x : T) → slice_get xs k ≡ Some x → IsIn xs x
+get_in [] k x e = absurd (none-some x e)
+get_in (y ∷ ys) zero x e = inl (same_Some y x e)
+get_in (y ∷ ys) (suc k) x e = inr (get_in ys k x e)
 
 -- of two lists together
 pub in_two : {T : Type 0} (xs ys : List T) (x : T) → IsIn (xs ++ ys) x → IsIn xs x ⊎ IsIn ys x
@@ -86,6 +104,27 @@ none_found {T} test (y ∷ xs) x none i = elim (cases_Bool (test y)) [
     either : test y ≡ false → (IsIn xs x → test x ≡ false) → IsIn (y ∷ xs) x → test x ≡ false
     either f more (inl e) = ap test (sym e) ∙ f
     either f more (inr i) = more i
+
+-- where all pass a test
+pub all_pass : {T : Type 0} (test : T → Bool) (xs : List T) (x : T) → list_all test xs ≡ true → IsIn xs x → test x ≡ true
+all_pass test [] x all i = absurd i
+all_pass test (y ∷ ys) x all (inl e) = ap test (sym e) ∙ (and_parts (test y) (list_all test ys) all).0
+all_pass test (y ∷ ys) x all (inr i) = all_pass test ys x (and_parts (test y) (list_all test ys) all).1 i
+
+-- where one is found by a test, one passes it, and the other way about
+pub found_any : {T : Type 0} (test : T → Bool) (xs : List T) (x : T) → find test xs ≡ Some x → list_any test xs ≡ true
+found_any test [] x e = absurd (none-some x e)
+found_any test (y ∷ ys) x e = elim (cases_Bool (test y)) [
+  | inl p ↦ or_left (test y) (list_any test ys) p
+  | inr f ↦ or_right (test y) (list_any test ys) (found_any test ys x (sym (cond-false (test y) (Some y) (find test ys) f) ∙ e))
+]
+
+pub any_found : {T : Type 0} (test : T → Bool) (xs : List T) → list_any test xs ≡ true → (x : T) × (find test xs ≡ Some x)
+any_found test [] some = absurd (false≢true some)
+any_found test (y ∷ ys) some = elim (cases_Bool (test y)) [
+  | inl p ↦ (y, cond-true (test y) (Some y) (find test ys) p)
+  | inr f ↦ let m = any_found test ys (sym (ap (λ (b : Bool). b || list_any test ys) f) ∙ some) in (m.0, cond-false (test y) (Some y) (find test ys) f ∙ m.1)
+]
 
 -- where one passes a test
 pub one_passes : {T : Type 0} (test : T → Bool) (xs : List T) → list_any test xs ≡ true → (x : T) × IsIn xs x × (test x ≡ true)

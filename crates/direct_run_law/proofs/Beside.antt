@@ -1,5 +1,5 @@
 -- What a PDU that is heard at a node leaves as it is: its ports but for the entity called, and the ends of other bearers.
-use Rattle.std.proofs.Common.{◌≡◌, inl, inr, ℕ, ◌==◌, List, [], ◌∷◌, fold, Option, Some, None, option_and_then, unwrap_or, Result, Ok, Err, refl, sym, ◌∙◌, ap, subst, arith, Contains}
+use Rattle.std.proofs.Common.{◌≡◌, inl, inr, ℕ, List, [], Option, Some, unwrap_or, Result, Ok, Err, refl, sym, ◌∙◌, ap, subst, arith, Contains}
 use Rattle.link_base.specs.declared.names.Drb.{Drb}
 use Rattle.link_base.specs.declared.names.Key.{Key}
 use Rattle.link_base.specs.declared.names.PortName.{PortName}
@@ -14,100 +14,21 @@ use Rattle.rlc_model.specs.declared.hop.HopHeard.TheVariants.{Amd, Status, BadAm
 use Rattle.rlc_model.specs.declared.receiver.Heard.TheVariants.{Complete, Stored, Repeat, Outside, Conflict}
 use Rattle.rlc_model.specs.declared.transmitter.StatusHeard.TheVariants.{Acked, Old, Beyond}
 use Rattle.rlc_model.specs.Sides.{Entity}
-use Rattle.pdcp_model.specs.Sender.{Sender, confirms, hears_report}
+use Rattle.pdcp_model.specs.Sender.{Sender, hears_report}
 use Rattle.pdcp_model.specs.Receiver.{Receiver}
 use Rattle.node_model.specs.declared.answers.NodeHeard.{NodeHeard}
-use Rattle.node_model.specs.Ends.{HearsPdcp, data_pdu, report, neither, confirm_tags, confirm_count}
+use Rattle.node_model.specs.Ends.{HearsPdcp, data_pdu, report, neither, confirm_tags}
 use Rattle.node_model.specs.Hearing.{Passes, Follows}
 use Rattle.node_model.specs.Names.{back}
 use Rattle.node_model.specs.Routing.{Target, ToPdcp, Onward, Leads}
-use Rattle.node_model.specs.State.{PortSide, Outgoing, Incoming, Node, side_at, entity_at, entity_of, outgoing, incoming, set_side, no_incoming}
-use Rattle.node_model.proofs.Names.{cases_port}
+use Rattle.node_model.specs.State.{PortSide, Outgoing, Incoming, Node, outgoing, incoming, no_incoming}
 use Rattle.chain_model.proofs.Lookups.{incoming_key, outgoing_key, in_others}
-use Rattle.chain_law.proofs.Nodes.{side_set}
+use Rattle.chain_law.proofs.Leaving.{confirm_each, out_kept}
 use Rattle.book_law.specs.Honest.{HasCount}
 use Rattle.direct_run_law.proofs.Carried.{Fits, fits_still, grows_itself, tags_themselves, none_itself}
-use Rattle.direct_run_law.proofs.Ends.{Half, sent, heard, half, Both, NodeSame, same_itself, same_then, same_out, same_in, same_side}
-use Rattle.direct_run_law.proofs.Feeding.{out_kept}
+use Rattle.direct_run_law.proofs.Ends.{Half, sent, heard, half, Both}
 use Rattle.direct_run_law.proofs.Confirming.{tags_keep}
 use Rattle.direct_run_law.proofs.Leading.{leads_direct}
-
-abbrev confirm_each : Node → List Tag → Node
-confirm_each n tags = fold (λ node (tag : Tag). confirm_count node tag.key tag.count) n tags
-
--- what a node that confirms tags leaves
-record TagsStand (old new : Node) : Type 0 where
-  pub same : NodeSame old new
-  pub entities : (q : PortName) → entity_at new q ≡ entity_at old q
-
-count_stands : (n : Node) (key : Key) (count : Option ℕ) → TagsStand n (confirm_count n key count)
-count_stands n key None = record { same = same_itself n; entities = λ q. refl }
-count_stands n key (Some count) = record {
-  same = same_out n
-      (record (outgoing n key) { sender = confirms (outgoing n key).sender (λ other. other == count) });
-  entities = λ q. refl;
-}
-
-each_stands : (tags : List Tag) (n : Node) → TagsStand n (confirm_each n tags)
-each_stands [] n = record { same = same_itself n; entities = λ q. refl }
-each_stands (tag ∷ tags) n =
-    let mid = confirm_count n tag.key tag.count in
-    let p = count_stands n tag.key tag.count in
-    let q = each_stands tags mid in
-    record { same = same_then n mid (confirm_each mid tags) p.same q.same; entities = λ x. q.entities x ∙ p.entities x }
-
-tags_stand : (n : Node) (port : PortName) (tags : List Tag) → TagsStand n (confirm_tags n port tags)
-tags_stand n (Direct remote drb) tags = each_stands tags n
-tags_stand n (Pc5 remote chan) tags = record { same = same_itself n; entities = λ q. refl }
-tags_stand n (Uu chan) tags = record { same = same_itself n; entities = λ q. refl }
-
-module _ (t : Contents) (n1 : Node) (port : PortName) (here : PortSide) (shown : side_at n1 port ≡ Some here) where
-  -- names, attachments, keys and open sides stay
-  pub record Stands (new : Node) : Type 0 where
-    pub same : NodeSame n1 new
-    pub entities : (q : PortName) → entity_at new q ≡ entity_at n1 q
-
-  nowhere : (new : Node) → new ≡ n1 → Stands new
-  nowhere new is = subst Stands (sym is) (record { same = same_itself n1; entities = λ q. refl })
-
-  hears_stand : (key : Key) (body : List ℕ) (answer : NodeHeard) (new : Node) → HearsPdcp n1 key body answer new → Stands new
-  hears_stand key body answer new (data_pdu sn sdu reads h) = subst Stands (sym h.is)
-      (record { same = same_in n1 (record (incoming n1 key) { receiver = h.receiver }); entities = λ q. refl })
-  hears_stand key body answer new (report fmc bits reads (inl (within, says, is))) =
-      subst Stands (sym is) (record {
-        same = same_out n1
-            (record (outgoing n1 (back key)) { sender = hears_report (outgoing n1 (back key)).sender fmc bits });
-        entities = λ q. refl;
-      })
-  hears_stand key body answer new (report fmc bits reads (inr (beyond, says, is))) = nowhere new is
-  hears_stand key body answer new (neither fault is says same) = nowhere new same
-
-  passes_stand : (sdu : List ℕ) (target : Result Target Discard) (answer : NodeHeard) (new : Node) → Passes n1 here sdu target answer new → Stands new
-  passes_stand sdu (Ok (ToPdcp key body)) answer new p = hears_stand key body answer new p
-  passes_stand sdu (Ok (Onward route)) answer new p = subst Stands (sym p.1) (record {
-    same = same_side n1 (record here { slot = Some (record { from = here.name; route = route; sdu = sdu }) });
-    entities = λ q.
-        let now = record here { slot = Some (record { from = here.name; route = route; sdu = sdu }) } in
-        let sets = side_set n1 port here now shown refl in
-        elim (cases_port q port) [
-          | inl is ↦ ap (entity_at (set_side n1 now)) is ∙ ap (option_and_then entity_of) sets.here ∙ sym (ap (option_and_then entity_of) shown) ∙ ap (entity_at n1) (sym is)
-          | inr ne ↦ ap (option_and_then entity_of) (sets.others q ne)
-        ];
-  })
-  passes_stand sdu (Err discard) answer new p = nowhere new p.1
-
-  pub follows_stand : (at : Side) (hop : HopHeard) (answer : NodeHeard) (new : Node) → Follows t n1 at here hop answer new → Stands new
-  follows_stand at (Amd (Complete number whole)) answer new (target, leads, passes) = passes_stand whole target answer new passes
-  follows_stand at (Status (Acked tags marks)) answer new (says, is) = subst Stands (sym is)
-      (record { same = (tags_stand n1 here.name tags).same; entities = (tags_stand n1 here.name tags).entities })
-  follows_stand at (Amd Stored) answer new (says, is) = nowhere new is
-  follows_stand at (Amd Repeat) answer new (says, is) = nowhere new is
-  follows_stand at (Amd Outside) answer new (says, is) = nowhere new is
-  follows_stand at (Amd Conflict) answer new (says, is) = nowhere new is
-  follows_stand at (Status (Old ack next)) answer new (says, is) = nowhere new is
-  follows_stand at (Status (Beyond ack top)) answer new (says, is) = nowhere new is
-  follows_stand at (BadAmd fault) answer new (says, is) = nowhere new is
-  follows_stand at (BadStatus fault) answer new (says, is) = nowhere new is
 
 -- another bearer's end
 module _

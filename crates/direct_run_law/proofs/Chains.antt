@@ -24,8 +24,9 @@ use Rattle.chain_model.specs.Steps.{FeedsAll}
 use Rattle.chain_model.proofs.Lookups.{cases_found}
 use Rattle.chain_law.proofs.Chains.{node_in, node_name, node_set, node_kept}
 use Rattle.chain_law.proofs.Nodes.{port_of}
+use Rattle.chain_law.proofs.Leaving.{NodeSame}
 use Rattle.book_law.proofs.Fed.{feeds_keep}
-use Rattle.direct_run_law.proofs.Ends.{Half, sent, heard, half, Both, both_across, NodeSame, IsEnd, end_stays, Goes, goes_nowhere}
+use Rattle.direct_run_law.proofs.Ends.{Half, sent, heard, half, Both, both_across, IsEnd, end_stays, Goes, goes_nowhere}
 use Rattle.direct_run_law.proofs.Feeding.{Reports, MayReport, Fed, feeds_fed, feeds_rests, no_entity}
 
 -- a chain's end of a bearer at a side, where it is open with this entity

@@ -11,10 +11,9 @@ use Rattle.node_model.specs.Ends.{confirm_count}
 use Rattle.node_model.proofs.Names.{cases_key}
 use Rattle.node_model.proofs.Finding.{find_none}
 use Rattle.chain_model.proofs.Lookups.{cases_found, outgoing_key}
+use Rattle.chain_law.proofs.Leaving.{NodeSame, out_kept, out_set, same_itself, same_out, same_then}
 use Rattle.book_law.specs.Honest.{HasCount}
 use Rattle.direct_run_law.proofs.Carried.{SenderKeeps, keeps_itself}
-use Rattle.direct_run_law.proofs.Ends.{NodeSame, same_itself, same_then, same_out}
-use Rattle.direct_run_law.proofs.Feeding.{out_set, out_kept}
 
 -- one step behind another
 pub keeps_then : (r : Receiver) (a b c : Sender) → SenderKeeps r a b → SenderKeeps r b c → SenderKeeps r a c

@@ -31,13 +31,14 @@ use Rattle.chain_model.specs.Lines.{hearer, is_handed_over, Comes, Delivers}
 use Rattle.chain_model.specs.State.{Chain, node_at, set_node, entity_on}
 use Rattle.chain_law.specs.Entities.{RlcFits}
 use Rattle.chain_law.proofs.Nodes.{side_name, side_set}
+use Rattle.chain_law.proofs.Leaving.{Stands, follows_stand, same_entity, same_itself, same_then}
 use Rattle.book_law.specs.Honest.{HasCount}
 use Rattle.direct_run_law.specs.Foundations.{HopLaws, CallLaws, BookLaws, PdcpLaws}
-use Rattle.direct_run_law.proofs.Ends.{Half, sent, heard, half, Both, same_itself, same_then, same_entity, Goes, goes_nowhere, goes_entity}
+use Rattle.direct_run_law.proofs.Ends.{Half, sent, heard, half, Both, Goes, goes_nowhere, goes_entity}
 use Rattle.direct_run_law.proofs.Pdcp.{IsBooked}
 use Rattle.direct_run_law.proofs.Hops.{completes, acked}
 use Rattle.direct_run_law.proofs.Hearing.{follows_own, tag_had}
-use Rattle.direct_run_law.proofs.Beside.{Stands, follows_stand, follows_other}
+use Rattle.direct_run_law.proofs.Beside.{follows_other}
 use Rattle.direct_run_law.proofs.Chains.{Holds, Joined, half_on, holds_set}
 use Rattle.direct_run_law.proofs.Lines.{closed_set}
 

@@ -1,5 +1,5 @@
 -- The two ends of a direct port, and a step at the node of one.
-use Rattle.std.proofs.Common.{◌≡◌, inl, inr, Bool, true, false, cond, List, [], ◌∷◌, map, Some, None, option_and_then, refl, sym, ◌∙◌, ap, subst}
+use Rattle.std.proofs.Common.{◌≡◌, inl, inr, [], map, Some, None, option_and_then, refl, sym, ◌∙◌, ap, subst}
 use Rattle.std.specs.List.{AllByRecursion}
 use Rattle.std.proofs.lemmas.Option.{none-some, same_Some}
 use Rattle.link_base.specs.declared.names.Drb.{Drb}
@@ -14,11 +14,11 @@ use Rattle.rlc_model.specs.Sides.{Entity, across, flip, way_from}
 use Rattle.rlc_model.specs.Tx.{Tx}
 use Rattle.pdcp_model.specs.Sender.{Sender}
 use Rattle.pdcp_model.specs.Receiver.{Receiver}
-use Rattle.node_model.specs.Names.{is_key, is_port, key_of, source, sink, replaced}
-use Rattle.node_model.specs.State.{PortSide, Outgoing, Incoming, Node, side_at, entity_at, entity_of, outgoing, incoming, set_side, set_entity, set_outgoing, set_incoming}
+use Rattle.node_model.specs.Names.{key_of, source, sink}
+use Rattle.node_model.specs.State.{PortSide, Node, side_at, entity_at, entity_of, outgoing, incoming, set_entity}
 use Rattle.node_model.specs.Feeding.{in_key, out_key}
-use Rattle.node_model.proofs.Names.{cases_port, key_is, port_is}
-use Rattle.chain_law.proofs.Nodes.{port_of, side_set}
+use Rattle.node_model.proofs.Names.{cases_port}
+use Rattle.chain_law.proofs.Leaving.{NodeSame, entity_other, entity_set}
 use Rattle.direct_run_law.proofs.Carried.{Fits}
 
 -- what an end of a bearer has: the entity's transmitter and receiver, the sender of the key that it sends and the receiving side of the other key
@@ -47,43 +47,6 @@ Both remote drb side a b = Fits (sent remote drb side) a.tx b.rx a.sender b.rece
 pub both_across : (remote : Remote) (drb : Drb) (side : Side) (a b : Half) → Both remote drb side a b → Both remote drb (across side) b a
 both_across remote drb Low a b x = (x.1, x.0)
 both_across remote drb High a b x = (x.1, x.0)
-
--- a node's names, those of its ports among them, attachments and keys stay
-pub record NodeSame (old new : Node) : Type 0 where
-  pub name : new.name ≡ old.name
-  pub ports : map port_of new.ports ≡ map port_of old.ports
-  pub attached : new.attached ≡ old.attached
-  pub outs : map out_key new.outgoing ≡ map out_key old.outgoing
-  pub ins : map in_key new.incoming ≡ map in_key old.incoming
-
-pub same_itself : (n : Node) → NodeSame n n
-same_itself n = record { name = refl; ports = refl; attached = refl; outs = refl; ins = refl }
-
-pub same_then : (x y z : Node) → NodeSame x y → NodeSame y z → NodeSame x z
-same_then x y z p q = record { name = q.name ∙ p.name; ports = q.ports ∙ p.ports; attached = q.attached ∙ p.attached; outs = q.outs ∙ p.outs; ins = q.ins ∙ p.ins }
-
--- rows keep their names where one is set in the place of those of its name
-names_set : {Row Name : Type 0} (name : Row → Name) (mine : Row → Bool) (now : Row) → ((x : Row) → mine x ≡ true → name now ≡ name x) → (rows : List Row)
-    → map name (replaced mine now rows) ≡ map name rows
-names_set name mine now is_one [] = refl
-names_set {Row} {Name} name mine now is_one (x ∷ xs) = ap (λ (names : List Name). name (cond (mine x) now x) ∷ names) (names_set name mine now is_one xs)
-    ∙ ap (λ (own : Name). own ∷ map name xs) (by (mine x) refl)
-  where
-    by : (b : Bool) → mine x ≡ b → name (cond b now x) ≡ name x
-    by true is = is_one x is
-    by false is = refl
-
-pub same_out : (n : Node) (o : Outgoing) → NodeSame n (set_outgoing n o)
-same_out n o = record { name = refl; ports = refl; attached = refl; outs = names_set out_key (λ (x : Outgoing). is_key o.key x.key) o (λ x is. key_is o.key x.key is) n.outgoing; ins = refl }
-
-pub same_in : (n : Node) (i : Incoming) → NodeSame n (set_incoming n i)
-same_in n i = record { name = refl; ports = refl; attached = refl; outs = refl; ins = names_set in_key (λ (x : Incoming). is_key i.key x.key) i (λ x is. key_is i.key x.key is) n.incoming }
-
-pub same_side : (n : Node) (s : PortSide) → NodeSame n (set_side n s)
-same_side n s = record { name = refl; ports = names_set port_of (λ (x : PortSide). is_port s.name x.name) s (λ x is. port_is s.name x.name is) n.ports; attached = refl; outs = refl; ins = refl }
-
-pub same_entity : (n : Node) (s : PortSide) (e : Entity) → NodeSame n (set_entity n s e)
-same_entity n s e = same_side n (record s { entity = Some e })
 
 -- a node attaches nothing, and has only the keys of its ends
 pub record IsEnd (n : Node) : Type 0 where
@@ -122,13 +85,6 @@ goes_rows remote drb side other old new same keeps = record { closed = λ none. 
 
 pub goes_nowhere : (remote : Remote) (drb : Drb) (side : Side) (other : Half) (old new : Node) → new ≡ old → Goes remote drb side other old new
 goes_nowhere remote drb side other old new is = subst (Goes remote drb side other old) (sym is) (goes_rows remote drb side other old old refl (λ e fits. fits))
-
--- the entity of an open side of a port, once it is set
-pub entity_set : (n : Node) (port : PortName) (side : PortSide) (e : Entity) → side_at n port ≡ Some side → entity_at (set_entity n side e) port ≡ Some e
-entity_set n port side e here = ap (option_and_then entity_of) (side_set n port side (record side { entity = Some e }) here refl).here
-
-pub entity_other : (n : Node) (port q : PortName) (side : PortSide) (e : Entity) → side_at n port ≡ Some side → (q ≡ port → ⊥) → entity_at (set_entity n side e) q ≡ entity_at n q
-entity_other n port q side e here ne = ap (option_and_then entity_of) ((side_set n port side (record side { entity = Some e }) here refl).others q ne)
 
 -- the entity of a port is set to one of its epoch, and the rows may change
 pub goes_entity : (remote : Remote) (drb : Drb) (at : Side) (other : Half) (n : Node) (port : PortName) (side : PortSide) (entity now : Entity) (new : Node)

@@ -1,5 +1,5 @@
 -- A node of a direct port feeds.
-use Rattle.std.proofs.Common.{◌≡◌, inl, inr, ℕ, ◌+◌, ◌≤◌, true, false, List, [], ◌∷◌, map, Option, Some, None, unwrap_or, option_and_then, refl, sym, ◌∙◌, ap, subst, arith}
+use Rattle.std.proofs.Common.{◌≡◌, inl, inr, ℕ, ◌+◌, ◌≤◌, true, false, List, [], ◌∷◌, map, Some, None, option_and_then, refl, sym, ◌∙◌, ap, subst, arith}
 use Rattle.std.specs.List.{AllByRecursion}
 use Rattle.std.proofs.lemmas.Option.{none-some, same_Some}
 use Rattle.link_base.specs.declared.names.Drb.{Drb}
@@ -19,18 +19,18 @@ use Rattle.rlc_model.specs.Sides.{Entity, way_from, flip, sender_of, hearer_of}
 use Rattle.rlc_model.specs.Rx.{empty_rx}
 use Rattle.rlc_model.specs.Tx.{Tx, Kept, empty_tx}
 use Rattle.pdcp_pdu.specs.Pdcp.{Report, pdcp_bytes}
-use Rattle.pdcp_model.specs.Sender.{Sender, kept_at, next, data_pdu, gave_next, is_reported}
+use Rattle.pdcp_model.specs.Sender.{Sender, next, data_pdu, gave_next, is_reported}
 use Rattle.pdcp_model.specs.Receiver.{Receiver, IsReport}
-use Rattle.node_model.specs.Names.{key_of, owner, source, sink, back, is_key}
-use Rattle.node_model.specs.State.{Outgoing, Incoming, Node, id_in, id_at, entity_at, entity_of, outgoing_at, incoming_at, outgoing, incoming, set_entity, set_outgoing, set_incoming, no_outgoing, no_incoming}
+use Rattle.node_model.specs.Names.{key_of, owner, source, sink, back}
+use Rattle.node_model.specs.State.{Outgoing, Incoming, Node, id_in, id_at, entity_at, entity_of, outgoing_at, outgoing, incoming, set_entity, set_outgoing, set_incoming}
 use Rattle.node_model.specs.Feeding.{port_on, first_hop, under, tag_of, GivesPdu, GivesReport, FeedsReport, unwanted, dropped, no_room, gives as gives_report, FeedsReports, GivesData, FeedsData, rests as rests_data, gives as gives_more, FeedsEach, Feeds, in_key, out_key}
-use Rattle.node_model.proofs.Names.{cases_key, owner_side}
-use Rattle.node_model.proofs.Finding.{find_none}
-use Rattle.chain_model.proofs.Lookups.{cases_found, outgoing_key, incoming_key, out_own, out_others, in_own, in_others}
+use Rattle.node_model.proofs.Names.{owner_side}
+use Rattle.chain_model.proofs.Lookups.{cases_found, outgoing_key, incoming_key}
+use Rattle.chain_law.proofs.Leaving.{NodeSame, in_same, out_kept, out_set, out_there, same_entity, same_in, same_itself, same_out, same_then}
 use Rattle.book_law.specs.Honest.{HasCount}
 use Rattle.direct_run_law.proofs.Carried.{data_pdu_of, report, Fits, SenderKeeps, keeps_itself}
 use Rattle.direct_run_law.proofs.Given.{fits_gives}
-use Rattle.direct_run_law.proofs.Ends.{Half, sent, heard, half, Both, NodeSame, same_itself, same_then, same_out, same_in, same_entity, IsEnd, end_stays, Goes, goes_then, goes_rows, goes_nowhere, goes_entity}
+use Rattle.direct_run_law.proofs.Ends.{Half, sent, heard, half, Both, IsEnd, end_stays, Goes, goes_then, goes_rows, goes_nowhere, goes_entity}
 
 -- the reports of a receiving side tell of no COUNT that it doesn't have
 abbrev pub Reports : Receiver → Type 0
@@ -67,33 +67,6 @@ pub key_heard : (key : Key) (remote : Remote) (drb : Drb) (side : Side) → sink
 key_heard key remote drb side at port =
     let way : key.way ≡ flip (way_from side) = way_heard key.way side (owner_side (hearer_of key.way) side (Direct key.remote key.drb) (at ∙ ap (owner side) port)) in
     ap (λ (w : Way). key_of key.remote key.drb w) way ∙ ap (λ (p : PortName). key_of (remote_of p key.remote) (drb_of p key.drb) (flip (way_from side))) (sym port)
-
--- a row that is set with the same receiving side
-pub in_same : (n : Node) (of : Key) (j : Incoming) → j.key ≡ of → j.receiver ≡ (incoming n of).receiver → (k : Key)
-    → (incoming (set_incoming n j) k).receiver ≡ (incoming n k).receiver
-in_same n of j its same k = elim (cases_key j.key k) [
-  | inr ne ↦ ap (λ (o : Option Incoming). (unwrap_or o (no_incoming k)).receiver) (in_others n j k ne)
-  | inl is ↦ elim (cases_found (incoming_at n j.key)) [
-    | inl there ↦
-        let found : incoming_at n k ≡ Some there.0 = ap (incoming_at n) (sym is) ∙ there.1 in
-        ap (λ (o : Option Incoming). (unwrap_or o (no_incoming k)).receiver) (in_own n j there.0 k is found) ∙ same ∙ ap (λ (x : Key). (incoming n x).receiver) (sym its ∙ is)
-    | inr none ↦ ap (λ (rows : List Incoming). (incoming (record n { incoming = rows }) k).receiver) (find_none (λ (x : Incoming). is_key j.key x.key) j n.incoming none)
-  ]
-]
-
--- a row that is set for a sender that is there
-pub out_set : (n : Node) (o old : Outgoing) (k : Key) → o.key ≡ k → outgoing_at n k ≡ Some old → outgoing (set_outgoing n o) k ≡ o
-out_set n o old k its found = ap (λ (x : Option Outgoing). unwrap_or x (no_outgoing k)) (out_own n o old k its found)
-
-pub out_kept : (n : Node) (o : Outgoing) (k : Key) → (o.key ≡ k → ⊥) → outgoing (set_outgoing n o) k ≡ outgoing n k
-out_kept n o k ne = ap (λ (x : Option Outgoing). unwrap_or x (no_outgoing k)) (out_others n o k ne)
-
--- a sender that keeps something is there
-pub out_there : (n : Node) (k : Key) (m : ℕ) (sdu : List ℕ) → kept_at (outgoing n k).sender m ≡ Some sdu → (o : Outgoing) × (outgoing_at n k ≡ Some o)
-out_there n k m sdu is = elim (cases_found (outgoing_at n k)) [
-  | inl there ↦ there
-  | inr none ↦ absurd (none-some sdu (sym (ap (λ (o : Option Outgoing). kept_at (unwrap_or o (no_outgoing k)).sender m) none) ∙ is))
-]
 
 module _ (t : Contents) (old : Node) (end : IsEnd old) where
   -- without an attachment a PDU goes over the direct port, and without a header

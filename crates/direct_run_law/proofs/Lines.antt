@@ -40,10 +40,10 @@ use Rattle.chain_model.specs.Lines.{Unless, Submits, Granted, Sends, Loses, with
 use Rattle.chain_model.specs.State.{Chain, node_at, set_node, sender_at}
 use Rattle.chain_law.specs.Calls.{KeepsTags, CompletesNone}
 use Rattle.chain_law.proofs.Nodes.{port_of, side_name}
+use Rattle.chain_law.proofs.Leaving.{NodeSame, entity_other, in_same, out_kept, same_entity, same_in, same_itself, same_out, same_side, same_then}
 use Rattle.direct_run_law.specs.Foundations.{CallLaws}
 use Rattle.direct_run_law.proofs.Carried.{Fits, SenderKeeps, fits_still, keeps_itself, grows_itself, tags_themselves, none_itself}
-use Rattle.direct_run_law.proofs.Ends.{Half, sent, heard, NodeSame, same_itself, same_then, same_out, same_in, same_side, same_entity, Goes, goes_rows, goes_entity, entity_other}
-use Rattle.direct_run_law.proofs.Feeding.{in_same, out_kept}
+use Rattle.direct_run_law.proofs.Ends.{Half, sent, heard, Goes, goes_rows, goes_entity}
 use Rattle.direct_run_law.proofs.Hops.{granted_long, expired_long}
 use Rattle.direct_run_law.proofs.Confirming.{out_keeps}
 use Rattle.direct_run_law.proofs.Chains.{Holds, half_on, holds_beside, holds_set}

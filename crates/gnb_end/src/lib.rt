@@ -1,4 +1,4 @@
-//! The gNB: the end of the bearers of all remotes (TS 38.300 clause 16.12.2.1). All paths are direct ones.
+//! The gNB: the end of the bearers of all remotes (TS 38.300 clause 16.12.2.1).
 #![tactic(auto)]
 
 mod gnb_end;

@@ -9,7 +9,7 @@ use Rattle.rlc_model.specs.declared.hop.HopHeard.TheVariants.{Amd as AmdHeard, S
 use Rattle.rlc_model.specs.declared.receiver.Heard.{Heard}
 use Rattle.rlc_model.specs.declared.receiver.Heard.TheVariants.{Stored, Complete, Repeat, Outside, Conflict}
 use Rattle.rlc_model.specs.Heard.{Data}
-use Rattle.rlc_model.specs.Hop.{side_fault}
+use Rattle.rlc_model.specs.Hop.{side_fault, HearsHop}
 use Rattle.rlc_model.specs.Rx.{Rx, Done, got}
 use Rattle.rlc_model.specs.Sides.{hearer_of}
 use Rattle.rlc_law.specs.Hop.{Hop, Deliver, given_at}
@@ -26,14 +26,16 @@ use Rattle.chain_model.specs.Sizes.{port_size}
 use Rattle.chain_model.specs.State.{Chain, entity_on}
 use Rattle.chain_model.specs.Steps.{Step}
 use Rattle.chain_law.specs.Calls.{HearLeavesKept}
-use Rattle.chain_law.proofs.Chains.{Holds}
+use Rattle.chain_law.proofs.Chains.{Holds, view}
 use Rattle.chain_law.proofs.Counting.{delivery_heard, delivery_given}
 use Rattle.chain_law.proofs.Hearing.{Takes, no_fault, side_epoch_is}
+use Rattle.chain_law.proofs.Stands.{Stands}
 use Rattle.book_law.specs.Hearings.{EntityHears}
 use Rattle.heard_law.specs.Foundations.{HeardLaws}
 use Rattle.heard_law.specs.Receiving.{hop_at}
 use Rattle.heard_law.specs.Telling.{Tells}
-use Rattle.heard_law.proofs.Hops.{HasLog, was_done, now_done, completed_given}
+use Rattle.heard_law.proofs.Answering.{completes_between}
+use Rattle.heard_law.proofs.Hops.{HasLog, was_done, completed_given}
 use Rattle.heard_law.proofs.Logged.{logged, comes_logged}
 use Rattle.heard_law.proofs.Receivers.{hears_way, port_log}
 use Rattle.heard_law.proofs.Staged.{AreForRelay}
@@ -149,25 +151,14 @@ module _ (laws : HeardLaws) (t : Contents) (h : List Entry) (m : Moment) (tables
         only_this Outside k g = absurd (not_before ((k.1 number).0 now.0))
         only_this Conflict k g = absurd (not_before ((k.1 number).0 now.0))
 
-      completes_this : (own : ℕ) (whole : List ℕ) → y.answered ≡ Complete own whole → CompletesAt hop h m.entry own whole
-      completes_this own whole is =
-          let k = subst (λ (a : Heard). HearLeavesKept x.entity.tx x.entity.rx (AmdHeard a) x.tx x.rx) is kept in
-          let g = subst (IsAsGiven (hop_of heard.0 x.pdu.way) x.pdu.number) is y.leaves.as_given in
-          subst (CompletesAt hop h m.entry own) (ap (given_at (hop_of heard.0 x.pdu.way)) g.0 ∙ sym g.2)
-          (now_done laws (hop_of heard.0 x.pdu.way) new_hop hop h m.entry before_log behind_log given own (λ done. k.1.before (ap (λ (r : Rx). got r own) before_rx ∙ done))
-          (ap (λ (r : Rx). got r own) (sym behind_rx) ∙ k.1.now))
-
     -- what the line completes over the hop is what the entity answers
     pub completes_only : (number : ℕ) (sdu : List ℕ) → CompletesAt hop h m.entry number sdu → Answers answer number sdu
     completes_only number sdu c = subst (λ (a : HopHeard). Answers a number sdu) (sym made.its_answer) (only_this made number sdu c made.answered (kept made) made.leaves.as_given)
 
     -- and what it answers as completed the line completes
     pub completes_answered : (own : ℕ) (whole : List ℕ) → answer ≡ AmdHeard (Complete own whole) → CompletesAt hop h m.entry own whole
-    completes_answered own whole is = completes_this made own whole (same_answer made.answered (Complete own whole) (sym made.its_answer ∙ is))
-      where
-        answer_in : HopHeard → Heard
-        answer_in (AmdHeard a) = a
-        answer_in other = Stored
-
-        same_answer : (a b : Heard) → AmdHeard a ≡ AmdHeard b → a ≡ b
-        same_answer a b e = ap answer_in e
+    completes_answered own whole is =
+        let between = completes_between laws t h (m.entry ∷ h) (subst (λ (u : Contents). Stands (logged t h) u (view m.before) holds.limit m.before.air) tables holds.stands) x.ticket x.pdu x.shown
+        x.entity is_open fault own whole x.tx x.rx (subst (λ (a : HopHeard). HearsHop x.entity.tx x.entity.rx x.pdu.bytes a x.tx x.rx) is x.hears)
+        ((comes_logged h m.entry m.before new told s staged laws t tables x.ticket x.pdu x.line x.shown).taken x.taken) in
+        record { now = between.now; before = between.before whole }

@@ -1,5 +1,5 @@
 -- What a hop's receiver has, where what it heard is what a history delivers.
-use Rattle.std.proofs.Common.{◌≡◌, ◌≢◌, ◌↔◌, ℕ, ◌<◌, List, [], ◌∷◌, length, get_or, ⊎_elim, refl, sym, ◌∙◌, ap, subst, arith}
+use Rattle.std.proofs.Common.{◌≡◌, ◌↔◌, ℕ, ◌<◌, List, [], ◌∷◌, length, get_or, ⊎_elim, refl, sym, ◌∙◌, ap, subst, arith}
 use Rattle.std.specs.List.{Contains}
 use Rattle.rlc_pdu.specs.Amd.{Amd}
 use Rattle.rlc_model.specs.Heard.{Data, HasByte as HasByteOf, HasEnd as HasEndOf, HeardAs}
@@ -81,13 +81,6 @@ module _ (laws : HeardLaws) (old new : Hop) (hop : HopOf) (h : List Entry) (e : 
   pub was_done : (n : ℕ) (sdu : List ℕ) → got old.rx n ≡ Done → CompletesAt hop h e n sdu → ⊥
   was_done n sdu done c = c.before (subst (HeardAt hop h n) (sym ((heard_given laws new hop (e ∷ h) y n sdu c.now).1 ∙ given_same n)) (done_heard laws old hop h x n done))
 
-  -- one that is done by the line is completed, as the SDU given
-  pub now_done : (n : ℕ) → got old.rx n ≢ Done → got new.rx n ≡ Done → CompletesAt hop h e n (given_at old n)
-  now_done n not_done done = record {
-    now = subst (HeardAt hop (e ∷ h) n) (given_same n) (done_heard laws new hop (e ∷ h) y n done);
-    before = λ heard. not_done (heard_done laws old hop h x n (given_at old n) heard);
-  }
-
-  -- as no other
+  -- what is completed is done, and the SDU given
   pub completed_given : (n : ℕ) (sdu : List ℕ) → CompletesAt hop h e n sdu → (got new.rx n ≡ Done) × (sdu ≡ given_at old n)
   completed_given n sdu c = (heard_done laws new hop (e ∷ h) y n sdu c.now, (heard_given laws new hop (e ∷ h) y n sdu c.now).1 ∙ given_same n)

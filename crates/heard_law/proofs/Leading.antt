@@ -69,7 +69,7 @@ same_has : (xs ys : List Attachment) → Same xs ys → (a : Attachment) → Con
 same_has xs ys same a has = was_there (is_attached_to a.remote) ys a (subst (λ (l : List Attachment). Contains l a) (same a.remote) (picked (is_attached_to a.remote) xs a (remote_refl a.remote) has))
 
 -- the identity of a remote is the first of its own attachments
-own_id : (r : Remote) (xs : List Attachment) → id_in (of_remote r xs) r ≡ id_in xs r
+pub own_id : (r : Remote) (xs : List Attachment) → id_in (of_remote r xs) r ≡ id_in xs r
 own_id r [] = refl
 own_id r (x ∷ xs) = elim (cases_Bool (is_attached_to r x)) [
   | inl p ↦ ap (λ (l : List Attachment). id_in l r) (cond-true (is_attached_to r x) (x ∷ of_remote r xs) (of_remote r xs) p) ∙ cond-true (is_remote r x.remote) (Some x.id) (id_in (of_remote r xs) r) p

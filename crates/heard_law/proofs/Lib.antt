@@ -14,6 +14,7 @@ pub mod Staged
 pub mod Logged
 pub mod Hops
 pub mod Receivers
+pub mod Answering
 pub mod Completing
 pub mod Runs
 pub mod Keys

@@ -62,11 +62,11 @@ abbrev pub IsAtEnd : Way → PortName → Type 0
 IsAtEnd way port = owner (hearer_of way) port ≡ AtRelay → ⊥
 
 -- a line that shows these events alone
-abbrev shown : List Event → Entry
+abbrev pub shown : List Event → Entry
 shown events = record { line = Burst; events = events; reply = Ok }
 
 -- the line has a ticket's PDU heard
-abbrev HearsTicket : Entry → ℕ → Type 0
+abbrev pub HearsTicket : Entry → ℕ → Type 0
 HearsTicket e ticket = hears_ticket e ticket ≡ true
 
 module _ (t : Contents) (h : List Entry) where
@@ -84,7 +84,7 @@ module _ (t : Contents) (h : List Entry) where
     reads = d.reads;
   }
 
-  delivered_more : (first second : Entry) → ((ticket : ℕ) → HearsTicket first ticket → HearsTicket second ticket) → (over : HopOf) (number : ℕ) (fields : Amd)
+  pub delivered_more : (first second : Entry) → ((ticket : ℕ) → HearsTicket first ticket → HearsTicket second ticket) → (over : HopOf) (number : ℕ) (fields : Amd)
       → Delivered over (first ∷ h) number fields → Delivered over (second ∷ h) number fields
   delivered_more first second more over number fields (inl now) = inl (redelivers first second more over number fields now)
   delivered_more first second more over number fields (inr before) = inr before
@@ -288,7 +288,7 @@ module _ (h : List Entry) (e : Entry) (old new : Chain) (told : Tells h old) (s 
 
   module _ (laws : HeardLaws) (t : Contents) (tables : old.tables ≡ t) where
     -- before any event nothing is heard
-    unshown : Implies (logged t h) (logged t (shown [] ∷ h))
+    pub unshown : Implies (logged t h) (logged t (shown [] ∷ h))
     unshown = logged_on t h (shown []) (λ ticket heard. false≢true heard)
 
     -- a PDU comes to a side
@@ -323,10 +323,10 @@ module _ (h : List Entry) (e : Entry) (old new : Chain) (told : Tells h old) (s 
         (comes_logged ticket pdu line is)
 
     -- what is said while a burst goes on
-    abbrev said : List Event → Logs
+    abbrev pub said : List Event → Logs
     said done = logged t (shown done ∷ h)
 
-    says_on : SaysOn old (IsForRelay old.air) said
+    pub says_on : SaysOn old (IsForRelay old.air) said
     says_on = record {
       staged = staged;
       treats = λ done ticket pdu on side new reply treats. subst (λ (u : Contents). Into (said done) u (side_at (hearer pdu (with_side old side)) pdu.port) pdu

@@ -168,6 +168,7 @@ confirm_one g c st name tag (inr d) =
       unopened = st.unopened;
       places = st.places;
       paths = st.paths;
+      openings = st.openings;
       ends = ends;
     } in
     let same_out : outgoing (node_at c name) k ≡ o = ap (λ (x : Option Outgoing). unwrap_or x (no_outgoing k)) here in

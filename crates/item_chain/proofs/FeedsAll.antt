@@ -1,11 +1,11 @@
 -- All nodes feed, one behind another; and so a line with the feeding behind it goes by item steps.
 use mathlib.Core.Path.{fun_ext}
-use Rattle.std.proofs.Common.{◌≡◌, inl, inr, List, [], ◌∷◌, ◌++◌, find, Option, Some, None, unwrap_or, refl, sym, ◌∙◌, ap, subst, append_assoc}
+use Rattle.std.proofs.Common.{◌≡◌, inl, inr, List, [], ◌∷◌, ◌++◌, find, Option, Some, None, is_some, option_map, unwrap_or, refl, sym, ◌∙◌, ap, subst, append_assoc}
 use Rattle.link_base.specs.declared.names.Key.{Key}
 use Rattle.link_base.specs.declared.names.Remote.{Remote}
 use Rattle.bearer_map.specs.Contents.{Contents}
 use Rattle.node_model.specs.Names.{NodeName, AtRelay, is_node, is_remote, owner}
-use Rattle.node_model.specs.State.{Node, no_node, entity_at, slot_at, queue_at, outgoing_at, incoming_at}
+use Rattle.node_model.specs.State.{Node, no_node, side_at, entity_at, slot_at, queue_at, outgoing_at, incoming_at}
 use Rattle.node_model.proofs.Names.{node_refl, node_apart, cases_node}
 use Rattle.chain_model.specs.declared.plan.Plan.{Plan}
 use Rattle.chain_model.specs.Places.{find_node}
@@ -14,7 +14,7 @@ use Rattle.chain_model.specs.Steps.{FeedsAll}
 use Rattle.chain_model.proofs.Lookups.{cases_found, sets_nodes}
 use Rattle.chain_law.proofs.Chains.{find_hidden, find_skip, find_shown}
 use Rattle.book_law.proofs.Tables.{does_view, tables_of, tables_steady}
-use Rattle.item_chain.specs.View.{view}
+use Rattle.item_chain.specs.View.{side_size, view}
 use Rattle.item_chain.specs.Stands.{Ghost, Stands, Refines}
 use Rattle.item_chain.specs.Laws.{LinesGoByItemSteps}
 use Rattle.item_chain.specs.Runs.{FeedingGoesByItemSteps, StepsGoByItemSteps}
@@ -33,7 +33,8 @@ view_by_name c d tables plans air same =
     (fun_ext (λ m. ap outgoing_at (at m)))
     (fun_ext (λ m. ap incoming_at (at m)))
     (ap (λ (ps : List Plan). λ (remote : Remote). find (λ (p : Plan). is_remote remote p.remote) ps) plans)
-    air
+    air (fun_ext (λ b. fun_ext (λ q. ap (λ (n : Node). option_map side_size (side_at n q)) (at (owner b q)))))
+    (fun_ext (λ m. ap (λ (o : Option Node). is_some o) (same m)))
   where
     at : (name : NodeName) → node_at d name ≡ node_at c name
     at name = ap (λ (o : Option Node). unwrap_or o (no_node name)) (same name)

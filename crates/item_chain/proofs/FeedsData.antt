@@ -174,6 +174,9 @@ module _ (g : Ghost) (c : Chain) (st : Stands g (view c)) (o : Outgoing) (has : 
   tagged : IsTag c.tables k (Data (next s) x.sdu) tag
   tagged = (refl, f.row, f.its_row, ap (λ (n : ℕ). Some (n + next s)) f.first)
 
+  bears : id_at node k.remote ≡ id_of i.goal
+  bears = sym (id_back (id_at node k.remote)) ∙ ap id_of (its_goal g c st k tag pdu_bytes x.mid its)
+
   abbrev after : ItemSender
   after = record old { place = next s + 1 }
 
@@ -263,10 +266,10 @@ module _ (g : Ghost) (c : Chain) (st : Stands g (view c)) (o : Outgoing) (has : 
   pub data_given : Refines c.tables g (view (set_node c new))
   data_given = record {
     ghost = ghost_given g v st (sender_of k.way) p e (its_open g c st k tag pdu_bytes x.mid its) i bytes tag its.number its.tx its.gives (sym (way_sends k.way)) by spells
-        long tagged senders g.chain.wanted;
+        long tagged bears senders g.chain.wanted;
     goes = all_goes;
     stands = subst (Stands _) (sym seen)
         (given_stands g v st (sender_of k.way) p e (its_open g c st k tag pdu_bytes x.mid its) i bytes tag its.number its.tx its.gives (sym (way_sends k.way)) by spells
-        long tagged senders g.chain.wanted
+        long tagged bears senders g.chain.wanted
         (put_at is_node is_key v.outgoing (source k) k (Some new_out)) v.incoming (reaches_goes st.reaches all_goes) ends);
   }

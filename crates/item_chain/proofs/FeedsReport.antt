@@ -100,6 +100,9 @@ module _ (g : Ghost) (c : Chain) (st : Stands g (view c)) (j : Incoming) (has : 
         ∙ ap (λ (z : Option LocalId). under z k.drb (pdcp_bytes f.row.pdcp pdu)) (sym (id_back (id_at node k.remote)) ∙ ap id_of (its_goal g c st to tag pdu_bytes y.mid its));
   }
 
+  bears : id_at node k.remote ≡ id_of i.goal
+  bears = sym (id_back (id_at node k.remote)) ∙ ap id_of (its_goal g c st to tag pdu_bytes y.mid its)
+
   abbrev wants : Key → Bool
   wants = put is_key g.chain.wanted k false
 
@@ -164,10 +167,10 @@ module _ (g : Ghost) (c : Chain) (st : Stands g (view c)) (j : Incoming) (has : 
   pub report_given : Refines c.tables g (view (set_node c new))
   report_given = record {
     ghost = ghost_given g v st (sender_of to.way) p e (its_open g c st to tag pdu_bytes y.mid its) i bytes tag its.number its.tx its.gives (sym (way_sends to.way)) by spells
-        (report_spelt (id_at node k.remote) k.drb r.size r y.fmc y.map y.its (tells_all g v st (sink k) k j has)) refl g.chain.sender wants;
+        (report_spelt (id_at node k.remote) k.drb r.size r y.fmc y.map y.its (tells_all g v st (sink k) k j has)) refl bears g.chain.sender wants;
     goes = all_goes;
     stands = subst (Stands _) (sym seen)
         (given_stands g v st (sender_of to.way) p e (its_open g c st to tag pdu_bytes y.mid its) i bytes tag its.number its.tx its.gives (sym (way_sends to.way)) by spells
-        (report_spelt (id_at node k.remote) k.drb r.size r y.fmc y.map y.its (tells_all g v st (sink k) k j has)) refl g.chain.sender wants
+        (report_spelt (id_at node k.remote) k.drb r.size r y.fmc y.map y.its (tells_all g v st (sink k) k j has)) refl bears g.chain.sender wants
         v.outgoing (put_at is_node is_key v.incoming (sink k) k (Some new_in)) (reaches_goes st.reaches all_goes) ends);
   }

@@ -44,7 +44,7 @@ mapped f None y e = absurd (none-some y e)
 mapped f (Some x) y e = (x, refl, same_Some (f x) y e)
 
 -- a row of channels is one of its remote
-row_remote : (t : Contents) (r : Remote) (d : Drb) (row : MapRow) → map_row t r d ≡ Some row → r ≡ row.remote
+pub row_remote : (t : Contents) (r : Remote) (d : Drb) (row : MapRow) → map_row t r d ≡ Some row → r ≡ row.remote
 row_remote t r d row is = remote_is r row.remote (and_parts _ _ (find_passes (λ (row : MapRow). is_remote r row.remote && (d.0 == row.drb.0)) t.maps row is)).0
 
 -- the sending side of a key's first hop is at the end that sends the key

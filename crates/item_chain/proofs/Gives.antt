@@ -34,12 +34,13 @@ use Rattle.item_place.proofs.Boxes.{of_station}
 use Rattle.item_place.proofs.Entering.{enters_on, not_new}
 use Rattle.item_place.proofs.Pushed.{push_was}
 use Rattle.item_chain.specs.View.{View, is_side, put_at}
-use Rattle.item_chain.specs.Stands.{IsSpelt, IsLongEnough, IsTag, FitsDirect, IsParcel, RowFits, IsQueued, as_list, routed_for, item_tables, EndsFit, calm, Ghost, Stands}
+use Rattle.item_chain.specs.Stands.{id_of, IsSpelt, IsLongEnough, IsTag, FitsDirect, IsParcel, RowFits, IsQueued, as_list, routed_for, item_tables, EndsFit, calm, Ghost, Stands}
 use Rattle.item_chain.proofs.Headers.{pc5_direct, uu_direct}
-use Rattle.item_chain.proofs.Ports.{own, ports_after, sides_after, air_after, unopened_after, hops_after, directs_after, paths_after, link_port, link_epoch}
+use Rattle.item_chain.proofs.Ports.{own, ports_after, sides_after, air_after, unopened_after, hops_after, directs_after, paths_after, openings_after, link_port, link_epoch}
 use Rattle.item_chain.proofs.Pushes.{link_ingress, link_egress}
 use Rattle.item_chain.proofs.Quiet.{at_end, given_fits}
 use Rattle.item_chain.proofs.Rows.{row_map}
+use Rattle.item_chain.proofs.Tags.{bears_more}
 
 below_not : (m n : ℕ) → m < n → m ≡ n → ⊥
 below_not m n lt e = absurd (omega (arith, lt, e))
@@ -72,13 +73,13 @@ module _ (t : Contents) (items : ℕ → Option Item) (spot : ℕ → Spot) (n :
     tags = λ k m j kept e is has. f.tags k m j kept e (sym (put_other of_number items n (Some i) m (below_not m n (known k m e))) ∙ is) has;
   }
   direct_known (Pc5 r c) tx f = tt
-  direct_known (Uu c) tx f = tt
+  direct_known (Uu c) tx f = λ k m j kept e is has. f k m j kept e (sym (put_other of_number items n (Some i) m (below_not m n (known k m e))) ∙ is) has
 
   -- and where it comes to their end
   direct_given : (name : PortName) (f : ℕ) (old new : Tx) (kept : Kept) → length b.log ≡ length old.kept → b.left (length b.log) ≡ false → new.kept ≡ old.kept ++ Some kept ∷ []
-      → FirstBy t i i.goal (way_of i) name f → way_of i ≡ w → IsTag t i.key i.content kept.tag → FitsDirect name w t items spot b old
+      → FirstBy t i i.goal (way_of i) name f → way_of i ≡ w → IsTag t i.key i.content kept.tag → kept.tag.ue ≡ id_of i.goal → FitsDirect name w t items spot b old
       → FitsDirect name w t items_now spot_now (enter b n) new
-  direct_given (Direct r d) f old new kept long fresh is by way tag fits = record {
+  direct_given (Direct r d) f old new kept long fresh is by way tag bears fits = record {
     goals = λ k m e. elim (push_was b.log n k m e) [
       | inl was ↦ let x = fits.goals k m was in (x.0, put_other of_number items n (Some i) m (below_not m n (known k m was)) ∙ x.1, x.2, x.3, x.4, x.5)
       | inr now ↦ (i, ap items_now now.1 ∙ put_same of_number items n (Some i), its.0, its.1, its.2, way)
@@ -101,12 +102,14 @@ module _ (t : Contents) (items : ℕ → Option Item) (spot : ℕ → Spot) (n :
     where
       its : (i.goal ≡ ToDirect) × (i.key.remote ≡ r) × (i.key.drb ≡ d)
       its = direct_item t i i.goal (way_of i) r d f by
-  direct_given (Pc5 r c) f old new kept long fresh is by way tag fits = tt
-  direct_given (Uu c) f old new kept long fresh is by way tag fits = tt
+  direct_given (Pc5 r c) f old new kept long fresh is by way tag bears fits = tt
+  direct_given (Uu c) f old new kept long fresh is by way tag bears fits =
+      bears_more items_now n i b old new kept (put_same of_number items n (Some i)) long is bears (direct_known (Uu c) old fits)
 
 module _ (g : Ghost) (v : View) (st : Stands g v) (side : Side) (port : PortName) (e : Entity) (is_open : v.entity side port ≡ Some e)
     (i : Item) (bytes : List ℕ) (tag : Tag) (number : ℕ) (tx : Tx) (gives : Gives e.tx tag bytes number tx) (way : way_of i ≡ way_from side)
-    (by : FirstBy v.tables i i.goal (way_of i) port e.epoch) (spells : IsSpelt v.tables i bytes) (long : IsLongEnough bytes) (tagged : IsTag v.tables i.key i.content tag) where
+    (by : FirstBy v.tables i i.goal (way_of i) port e.epoch) (spells : IsSpelt v.tables i bytes) (long : IsLongEnough bytes) (tagged : IsTag v.tables i.key i.content tag)
+    (bears : tag.ue ≡ id_of i.goal) where
   abbrev pub n : ℕ
   n = length g.layout.items
 
@@ -174,7 +177,7 @@ module _ (g : Ghost) (v : View) (st : Stands g v) (side : Side) (port : PortName
       (direct_given v.tables g.chain.items g.chain.spot n i (way_from side) old_box (st.layout.known B) port e.epoch (hop_of port_own.0 (way_from side)).tx
       (hop_of moves.0 (way_from side)).tx new_kept as_many (st.layout.fresh B (length old_box.log) (omega arith))
       (ap (λ (x : Tx). x.kept) (sym moves.1.here.its_tx ∙ gives.is) ∙ ap (λ (x : Tx). x.kept ++ Some new_kept ∷ []) port_own.2.its_tx)
-      by way tagged (st.directs port e.epoch port_own.0 port_own.1 (way_from side)))
+      by way tagged bears (st.directs port e.epoch port_own.0 port_own.1 (way_from side)))
 
   abbrev P : Parcel → ℕ → Type 0
   P = IsParcel v.tables g.chain.items g.chain.spot g.spell
@@ -239,7 +242,8 @@ module _ (g : Ghost) (v : View) (st : Stands g v) (side : Side) (port : PortName
     unopened = λ q f none w.
         let was = unopened_after g v st side port e is_open (way_from side) (Give tag bytes) tx e.rx moves.0 moves.1 q f none in
         ap (λ (b : Box). b.log) (box_other (Link q w f) (λ h. not_here q w f was h)) ∙ st.unopened q f was w;
-    places = record { slots = slots; queues = queues };
+    places = record { slots = slots; queues = queues; own = st.places.own };
     paths = paths_after g v st side port e is_open (way_from side) (Give tag bytes) tx e.rx moves.0 moves.1;
+    openings = openings_after g v st side port e is_open (way_from side) (Give tag bytes) tx e.rx moves.0 moves.1;
     ends = ends;
   }

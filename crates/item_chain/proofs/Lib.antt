@@ -28,6 +28,7 @@ pub mod EndHears
 pub mod Directs
 pub mod Confirms
 pub mod Comes
+pub mod Starts
 pub mod OpenedNodes
 pub mod OpenedEnds
 pub mod Opened
@@ -43,4 +44,13 @@ pub mod Runs
 pub mod Room
 pub mod FedKeys
 pub mod FedNodes
+pub mod FreeIds
+pub mod Plans
+pub mod Reopened
+pub mod SwitchedItems
+pub mod SwitchedNodes
+pub mod SwitchedPaths
+pub mod SwitchedEnds
+pub mod Applies
+pub mod Purges
 pub mod TheLaws

@@ -1,7 +1,7 @@
 -- A ghost stands for the chain that tables open: there are no items, and each port is at its start.
-use Rattle.std.proofs.Common.{◌≡◌, ◌↔◌, inl, inr, ℕ, ◌==◌, ◌<◌, Bool, true, false, cond, List, [], find, Option, Some, None, option_map, refl, sym, ◌∙◌, ap, subst, arith}
+use Rattle.std.proofs.Common.{◌≡◌, inl, inr, ℕ, ◌==◌, ◌<◌, Bool, true, false, cond, [], find, Option, Some, None, option_map, refl, sym, ◌∙◌, ap, subst, arith}
 use Rattle.std.specs.Option.{unwrap_or, option_and_then}
-use Rattle.std.proofs.lemmas.Bool.{cases_Bool, cond-true, cond-false, eqb-true, false≢true}
+use Rattle.std.proofs.lemmas.Bool.{cases_Bool, cond-true, cond-false, eqb-true}
 use Rattle.std.proofs.lemmas.Option.{none-some, same_Some}
 use Rattle.link_base.specs.declared.names.LocalId.{LocalId}
 use Rattle.link_base.specs.declared.names.Node.{Node as NodeKind}
@@ -11,23 +11,19 @@ use Rattle.link_base.specs.declared.names.PortName.TheVariants.{Direct, Pc5, Uu}
 use Rattle.link_base.specs.declared.names.Remote.{Remote}
 use Rattle.link_base.specs.declared.names.Side.{Side}
 use Rattle.link_base.specs.declared.names.SnSize.{SnSize}
-use Rattle.link_base.specs.declared.names.Way.{Way}
-use Rattle.link_base.specs.declared.names.Way.TheVariants.{Ul, Dl}
 use Rattle.bearer_map.specs.declared.rows.RemoteRow.{RemoteRow}
 use Rattle.bearer_map.specs.Contents.{Contents}
 use Rattle.bearer_map.specs.Ids.{attachment, IsAttached}
 use Rattle.rlc_model.specs.declared.hop.Pdu.{Pdu}
 use Rattle.rlc_model.specs.Hop.{on_air}
-use Rattle.rlc_model.specs.Rx.{Got, Done, Part, got}
 use Rattle.rlc_model.specs.Sides.{Entity}
-use Rattle.rlc_model.specs.Tx.{Tx}
 use Rattle.rlc_law.specs.Ports.{Port, Ports, hop_of, start_port, IsSide, ReachesPort}
 use Rattle.rlc_law.specs.Sides.{HasSize, start_entity}
 use Rattle.node_model.specs.declared.parcel.Parcel.{Parcel}
 use Rattle.node_model.specs.Names.{NodeName, AtRemote, AtRelay, AtGnb, is_remote, node_of, owner}
 use Rattle.node_model.specs.Opening.{new_entity, all_attached, new_remote}
 use Rattle.node_model.specs.State.{PortSide, Node, side_at, slot_of, queue_of, entity_of, no_node, id_in}
-use Rattle.node_model.specs.Tables.{settings}
+use Rattle.node_model.specs.Tables.{settings, has_remote}
 use Rattle.node_model.proofs.Finding.{find_map}
 use Rattle.chain_model.specs.declared.plan.Plan.{Plan}
 use Rattle.chain_model.specs.Sizes.{port_size}
@@ -35,17 +31,18 @@ use Rattle.chain_model.specs.State.{node_at, first_plan, opened}
 use Rattle.chain_model.specs.Told.{first_goal}
 use Rattle.chain_law.specs.Entities.{port_settings}
 use Rattle.chain_law.proofs.Applying.{start_is}
-use Rattle.chain_law.proofs.Members.{contained}
 use Rattle.chain_law.proofs.Opened.{side_new}
+use Rattle.chain_law.proofs.Members.{contained, found_any, any_found}
 use Rattle.book_law.specs.Past.{AreTables}
-use Rattle.item_law.specs.State.{ToDirect, Lost}
+use Rattle.item_law.specs.State.{ToDirect, ToRelay, Lost, Reserves}
 use Rattle.item_law.specs.State.{Chain as ItemChain, Path}
 use Rattle.item_law.specs.World.{Opens}
 use Rattle.item_place.specs.Places.{Station, Box, at}
 use Rattle.item_place.specs.HopFits.{HopFits}
-use Rattle.item_chain.specs.View.{view}
-use Rattle.item_chain.specs.Stands.{item_tables, TablesGood, goal_of, FitsDirect, IsParcel, RowFits, as_list, IsQueued, IsOpenBy, kind_at, closed, PlanFits, Ghost, Stands}
-use Rattle.item_chain.proofs.OpenedNodes.{IsFirstOn, side_begins, at_gnb, at_relay, at_remote, gnb_ids, gnb_agrees, remote_ids, remote_agrees}
+use Rattle.item_chain.specs.View.{side_size, view}
+use Rattle.item_chain.specs.Stands.{item_tables, TablesGood, goal_of, IsParcel, RowFits, as_list, IsQueued, IsOpenBy, kind_at, closed, PlanFits, Ghost, Stands}
+use Rattle.item_chain.proofs.OpenedNodes.{IsFirstOn, side_begins, uu_opens, node_there, at_gnb, at_relay, at_remote, gnb_ids, gnb_agrees, remote_ids, remote_agrees}
+use Rattle.item_chain.proofs.Starts.{start_reaches, start_size, start_fits, start_direct}
 use Rattle.item_chain.proofs.OpenedEnds.{first_sender, ends_fit}
 
 -- nothing is in a box
@@ -77,48 +74,6 @@ module _ (t : Contents) where
     | inr other ↦ absurd (none-some port (sym (cond-false (epoch == 0) (Some (start_port (port_settings t name))) None other) ∙ e))
   ]
 
-  start_reaches : (name : PortName) → ReachesPort (start_port (port_settings t name))
-  start_reaches name Ul = record {
-    size = port_size t name;
-    poll_pdu = (settings t).poll_pdu;
-    poll_byte = (settings t).poll_byte;
-    max_retx_threshold = (settings t).max_retx;
-    events = [];
-    run = refl;
-  }
-  start_reaches name Dl = record {
-    size = port_size t name;
-    poll_pdu = (settings t).poll_pdu;
-    poll_byte = (settings t).poll_byte;
-    max_retx_threshold = (settings t).max_retx;
-    events = [];
-    run = refl;
-  }
-
-  start_size : (name : PortName) → HasSize (port_size t name) (start_port (port_settings t name))
-  start_size name Ul = (refl, refl)
-  start_size name Dl = (refl, refl)
-
-  part_done : (held : List (Option ℕ)) (len : Option ℕ) → Part held len ≡ Done → ⊥
-  part_done held len e = cc
-
-  none_left : (o : Got) → o ≡ Part [] None → (false ≡ true) ↔ (o ≡ Done)
-  none_left o is = ((λ e. absurd (false≢true e)), (λ e. absurd (part_done [] None (sym is ∙ e))))
-
-  start_fits : (name : PortName) (w : Way) → HopFits (λ n. []) (hop_of (start_port (port_settings t name)) w) empty_box
-  start_fits name Ul = record { long = refl; sdus = λ k n e. absurd (none-some n e); left = λ k. none_left (got (hop_of (start_port (port_settings t name)) Ul).rx k) refl }
-  start_fits name Dl = record { long = refl; sdus = λ k n e. absurd (none-some n e); left = λ k. none_left (got (hop_of (start_port (port_settings t name)) Dl).rx k) refl }
-
-  start_direct : (name : PortName) (w : Way) (tx : Tx) → FitsDirect name w t (λ n. None) (λ n. Lost) empty_box tx
-  start_direct (Direct r d) w tx = record {
-    goals = λ k n e. absurd (none-some n e);
-    arrived = λ k n e left. absurd (none-some n e);
-    tags =
-        λ k n i kept e is has. absurd (none-some n e);
-  }
-  start_direct (Pc5 r c) w tx = tt
-  start_direct (Uu c) w tx = tt
-
   nothing_there : (ticket : ℕ) (pdu : Pdu) → on_air [] ticket ≡ Some pdu → ⊥
   nothing_there ticket pdu = by (ticket == 0)
     where
@@ -138,6 +93,11 @@ module _ (t : Contents) where
         | inl none ↦ absurd (none-some e (sym none ∙ s.2))
         | inr some ↦ sym (start_is t name side 0) ∙ ap (λ (size : SnSize). new_entity (settings t) size 0) (sym new.size) ∙ same_Some _ e (sym some ∙ s.2)
       ]
+
+  size_new : (side : Side) (name : PortName) (o : Option PortSide) → side_at (node_at (opened t) (owner side name)) name ≡ o → (s : SnSize) → option_map side_size o ≡ Some s
+      → s ≡ port_size t name
+  size_new side name None is s e = absurd (none-some s e)
+  size_new side name (Some row) is s e = sym (same_Some row.size s e) ∙ (side_new t (owner side name) name row is).size
 
   nothing_stands : (a : Station) (k n : ℕ) → at empty_box k ≡ Some n → ⊥
   nothing_stands a k n e = none-some n e
@@ -192,6 +152,22 @@ module _ (t : Contents) where
             let same : first_plan row ≡ p = same_Some (first_plan row) p (sym (ap (option_map first_plan) is) ∙ e) in
             subst (PlanFits (first_path r)) same (closed refl refl refl (ap (λ (o : Option RemoteRow). unwrap_or (option_map (λ (x : RemoteRow). x.goal) o) ToDirect) is))
 
+    listed : (r : Remote) (id : LocalId) → Reserves (first_path r) id → has_remote t r ≡ true
+    listed r id (inr asks) = absurd (none-some asks.0 asks.1)
+    listed r id (inl is) = go (find (λ (row : RemoteRow). is_remote r row.remote) t.remotes) refl
+      where
+        direct : ToDirect ≡ ToRelay id → ⊥
+        direct e = cc
+
+        go : (o : Option RemoteRow) → find (λ (row : RemoteRow). is_remote r row.remote) t.remotes ≡ o → has_remote t r ≡ true
+        go None none = absurd (direct (sym (ap (λ (o : Option RemoteRow). unwrap_or (option_map (λ (x : RemoteRow). x.goal) o) ToDirect) none) ∙ is))
+        go (Some row) some = found_any (λ (row : RemoteRow). is_remote r row.remote) t.remotes row some
+
+    lasts : (r : Remote) → has_remote t r ≡ true → (p : Plan) × ((view (opened t)).plan r ≡ Some p)
+    lasts r has =
+        let row = any_found (λ (row : RemoteRow). is_remote r row.remote) t.remotes has in
+        (first_plan row.0, find_map first_plan (λ (p : Plan). is_remote r p.remote) t.remotes ∙ ap (option_map first_plan) row.1)
+
     pub opened_stands : Stands first_ghost (view (opened t))
     opened_stands = record {
       good = good;
@@ -207,7 +183,7 @@ module _ (t : Contents) where
       spelt = λ n i is. absurd (none-some i is);
       lengths = λ n i is. absurd (none-some i is);
       ports = record {
-        reaches = λ name epoch port is. subst ReachesPort (sym (is_first name epoch port is).1) (start_reaches name);
+        reaches = λ name epoch port is. subst ReachesPort (sym (is_first name epoch port is).1) (start_reaches t name);
         made = λ ticket pdu port on is. absurd (nothing_there ticket pdu on);
       };
       sides = record {
@@ -215,10 +191,11 @@ module _ (t : Contents) where
             (start_port (port_settings t name), refl, record { its_tx = refl; its_rx = refl });
         open_epoch = λ side name e is. subst (λ (e : Entity). e.epoch < 1) (open_new side name e is) (omega arith);
         not_open = λ side name epoch port le is. let at_zero : epoch ≡ 0 = (is_first name epoch port is).0 in absurd (omega (arith, le, at_zero));
-        sizes = λ name epoch port is. subst (HasSize (port_size t name)) (sym (is_first name epoch port is).1) (start_size name);
+        sizes = λ name epoch port is. subst (HasSize (port_size t name)) (sym (is_first name epoch port is).1) (start_size t name);
       };
-      hops = λ name epoch port is w. subst (λ (p : Port). HopFits (λ n. []) (hop_of p w) empty_box) (sym (is_first name epoch port is).1) (start_fits name w);
-      directs = λ name epoch port is w. start_direct name w (hop_of port w).tx;
+      hops = λ name epoch port is w. subst (λ (p : Port). HopFits (λ n. []) (hop_of p w) empty_box) (sym (is_first name epoch port is).1)
+          (start_fits t empty_box refl (λ n. []) (λ k. refl) name w);
+      directs = λ name epoch port is w. start_direct t empty_box refl (λ n. None) (λ n. Lost) name w (hop_of port w).tx;
       unopened = λ name epoch none w. refl;
       places = record {
         slots = λ q. subst (λ (o : Option Parcel). RowFits (IsParcel t (λ n. None) (λ n. Lost) (λ n. [])) empty_box (as_list o))
@@ -226,7 +203,15 @@ module _ (t : Contents) where
             (empty_row (IsParcel t (λ n. None) (λ n. Lost) (λ n. [])));
         queues = λ q. subst (RowFits (IsQueued (IsParcel t (λ n. None) (λ n. Lost) (λ n. [])) q) empty_box) (sym (no_queue q (side_at (node_at (opened t) AtRelay) q) refl))
             (empty_row (IsQueued (IsParcel t (λ n. None) (λ n. Lost) (λ n. [])) q));
+        own = λ q x is r of. absurd (none-some x (sym (no_slot q (side_at (node_at (opened t) AtRelay) q) refl) ∙ is));
       };
-      paths = record { opens = opens_by; ids = ids; agree = agrees; plans = plans };
+      paths = record { opens = opens_by; ids = ids; agree = agrees; plans = plans; listed = listed; lasts = lasts };
+      openings = record {
+        aired = λ ticket pdu on. absurd (nothing_there ticket pdu on);
+        fresh = λ r side name of. omega arith;
+        uus = λ side chan has. uu_opens t side chan has;
+        sizes = λ side name s is. size_new side name (side_at (node_at (opened t) (owner side name)) name) refl s is;
+        nodes = λ r has kind. node_there t r has kind;
+      };
       ends = ends_fit t good are first_path (λ r. refl);
     }

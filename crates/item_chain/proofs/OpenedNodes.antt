@@ -1,14 +1,19 @@
 -- The nodes of a chain that tables open: their sides of ports and what they attach.
-use Rattle.std.proofs.Common.{◌≡◌, inl, inr, ◌<◌, Bool, true, false, cond, List, [], ◌∷◌, ◌++◌, filter, find, flat_map, map, Option, Some, None, option_map, refl, sym, ◌∙◌, ap, subst, arith}
+use Rattle.std.proofs.Common.{◌≡◌, inl, inr, ◌<◌, ◌==◌, Bool, true, false, cond, List, [], ◌∷◌, ◌++◌, filter, find, flat_map, map, Option, Some, None, is_some, option_map, refl, sym, ◌∙◌, ap, subst, arith}
 use Rattle.std.specs.List.{AllByRecursion}
-use Rattle.std.specs.Option.{unwrap_or}
+use Rattle.std.specs.Option.{unwrap_or, option_and_then}
 use Rattle.std.proofs.lemmas.Bool.{cases_Bool, cond-true, cond-false, false≢true}
 use Rattle.std.proofs.lemmas.Option.{none-some, same_Some}
+use Rattle.link_base.specs.declared.names.Chan.{Chan}
 use Rattle.link_base.specs.declared.names.Goal.{Goal}
 use Rattle.link_base.specs.declared.names.LocalId.{LocalId}
+use Rattle.link_base.specs.declared.names.Node.{Node as NodeKind}
+use Rattle.link_base.specs.declared.names.Node.TheVariants as kinds
 use Rattle.link_base.specs.declared.names.PortName.{PortName}
 use Rattle.link_base.specs.declared.names.PortName.TheVariants.{Direct, Pc5, Uu}
 use Rattle.link_base.specs.declared.names.Remote.{Remote}
+use Rattle.link_base.specs.declared.names.Side.{Side}
+use Rattle.link_base.specs.declared.names.Side.TheVariants.{Low, High}
 use Rattle.link_base.specs.declared.names.SnSize.{SnSize}
 use Rattle.bearer_map.specs.declared.ids.Attachment.{Attachment}
 use Rattle.bearer_map.specs.declared.rows.BearerRow.{BearerRow}
@@ -18,17 +23,18 @@ use Rattle.bearer_map.specs.declared.rows.UuRow.{UuRow}
 use Rattle.bearer_map.specs.Contents.{Contents, remote_rank}
 use Rattle.bearer_map.specs.Order.{IsAscending}
 use Rattle.rlc_model.specs.Sides.{Entity}
-use Rattle.node_model.specs.Names.{NodeName, AtRemote, AtRelay, AtGnb, is_node, is_port, is_remote}
+use Rattle.node_model.specs.Names.{NodeName, AtRemote, AtRelay, AtGnb, is_node, is_port, is_remote, node_of}
 use Rattle.node_model.specs.Opening.{new_entity, new_side, direct_side, pc5_side, uu_side, bearers_of, pc5s_of, attachments, all_attached, new_remote, new_relay, new_gnb}
-use Rattle.node_model.specs.State.{PortSide, Node, side_at, no_node, id_in}
-use Rattle.node_model.specs.Tables.{settings, is_open_on}
-use Rattle.node_model.proofs.Finding.{find_passes, find_append, find_map}
+use Rattle.node_model.specs.State.{PortSide, Node, side_at, entity_of, entity_at, no_node, id_in}
+use Rattle.node_model.specs.Tables.{settings, has_remote, is_open_on}
+use Rattle.node_model.proofs.Finding.{find_passes, find_append, find_map, each_made, each_flat}
 use Rattle.node_model.proofs.Names.{port_is, remote_is, remote_refl, remote_apart}
-use Rattle.chain_model.specs.State.{node_at, opened}
+use Rattle.chain_model.specs.Places.{find_node}
+use Rattle.chain_model.specs.State.{node_at, opened, entity_on}
 use Rattle.chain_model.specs.Told.{first_goal}
-use Rattle.chain_law.proofs.Members.{IsIn, in_two, in_many}
+use Rattle.chain_law.proofs.Members.{IsIn, in_two, in_many, any_found}
 use Rattle.item_law.specs.State.{ToDirect, ToRelay, is_over_relay}
-use Rattle.item_chain.specs.Stands.{goal_of}
+use Rattle.item_chain.specs.Stands.{has_uu, goal_of}
 
 all_in : {T : Type 0} (P : T → Type 0) (xs : List T) (x : T) → AllByRecursion P xs → IsIn xs x → P x
 all_in P [] x all i = absurd i
@@ -65,6 +71,11 @@ made {R} make rows q s e = go (find (λ (x : R). is_port q (make x).name) rows) 
     go None is = absurd (none-some s (sym (find_map make (λ (s : PortSide). is_port q s.name) rows ∙ ap (option_map make) is) ∙ e))
     go (Some row) is = (row, is, same_Some (make row) s (sym (find_map make (λ (s : PortSide). is_port q s.name) rows ∙ ap (option_map make) is) ∙ e))
 
+-- what is found behind what doesn't pass
+found_behind : {T : Type 0} (test : T → Bool) (xs ys : List T) → AllByRecursion (λ (x : T). test x ≡ false) xs → find test (xs ++ ys) ≡ find test ys
+found_behind test [] ys none = refl
+found_behind test (x ∷ xs) ys none = cond-false (test x) (Some x) (find test (xs ++ ys)) none.0 ∙ found_behind test xs ys none.1
+
 module _ (t : Contents) where
   ---- nodes
 
@@ -95,6 +106,12 @@ module _ (t : Contents) where
   pub at_remote : (r : Remote) → node_at (opened t) (AtRemote r) ≡ unwrap_or (option_map (new_remote t) (find (λ (row : RemoteRow). is_remote r row.remote) t.remotes))
       (no_node (AtRemote r))
   at_remote r = ap (λ (o : Option Node). unwrap_or o (no_node (AtRemote r))) (find_remote r t.remotes)
+
+  pub node_there : (r : Remote) → has_remote t r ≡ true → (kind : NodeKind) → is_some (find_node (opened t) (node_of kind r)) ≡ true
+  node_there r has kinds.Relay = ap (λ (o : Option Node). is_some o) (find_relay t.remotes)
+  node_there r has kinds.Gnb = ap (λ (o : Option Node). is_some o) (find_gnb t.remotes)
+  node_there r has kinds.Remote =
+      ap (λ (o : Option Node). is_some o) (find_remote r t.remotes ∙ ap (option_map (new_remote t)) (any_found (λ (row : RemoteRow). is_remote r row.remote) t.remotes has).1)
 
   ---- sides
 
@@ -194,7 +211,8 @@ module _ (t : Contents) where
     gnb_begins : (q : PortName) (s : PortSide) → side_at (new_gnb t) q ≡ Some s → SideBegins (IsFirstOn q) s
     gnb_begins q s e = elim (find_append (λ (s : PortSide). is_port q s.name) (flat_map
         (λ (row : RemoteRow). map (direct_side (settings t) row.goal) (bearers_of t row.remote)) t.remotes) (map (uu_side (settings t)) t.uus) s e) [
-          | inl direct ↦ many_begin (λ (row : RemoteRow). map (direct_side (settings t) row.goal) (bearers_of t row.remote)) q s (λ row. directs_begin row.goal row.remote q s) direct
+          | inl direct ↦ many_begin (λ (row : RemoteRow). map (direct_side (settings t) row.goal) (bearers_of t row.remote)) q s
+              (λ row. directs_begin row.goal row.remote q s) direct
           | inr uu ↦ uus_begin q s uu
         ]
 
@@ -224,6 +242,32 @@ module _ (t : Contents) where
         (ap (λ (n : Node). side_at n q) (sym (at_remote r)) ∙ e)
     side_begins AtRelay q s e = relay_begins q s (ap (λ (n : Node). side_at n q) (sym at_relay) ∙ e)
     side_begins AtGnb q s e = gnb_begins q s (ap (λ (n : Node). side_at n q) (sym at_gnb) ∙ e)
+
+  -- the sides of Uu ports are open
+  uu_side_there : (chan : Chan) (before : List PortSide) → AllByRecursion (λ (s : PortSide). is_port (Uu chan) s.name ≡ false) before → has_uu t chan ≡ true
+      → (s : PortSide) × (find (λ (s : PortSide). is_port (Uu chan) s.name) (before ++ map (uu_side (settings t)) t.uus) ≡ Some s) × (is_some s.entity ≡ true)
+  uu_side_there chan before none has =
+      let row = any_found (λ (row : UuRow). chan.0 == row.chan.0) t.uus has in (
+        uu_side (settings t) row.0,
+        found_behind (λ (s : PortSide). is_port (Uu chan) s.name) before (map (uu_side (settings t)) t.uus) none
+            ∙ find_map (uu_side (settings t)) (λ (s : PortSide). is_port (Uu chan) s.name) t.uus ∙ ap (option_map (uu_side (settings t))) row.1,
+        refl,
+      )
+
+  opens_there : (n : Node) (chan : Chan) (s : PortSide) → side_at n (Uu chan) ≡ Some s → is_some s.entity ≡ true → is_some (entity_at n (Uu chan)) ≡ true
+  opens_there n chan s there some = ap (λ (o : Option PortSide). is_some (option_and_then entity_of o)) there ∙ some
+
+  pub uu_opens : (side : Side) (chan : Chan) → has_uu t chan ≡ true → is_some (entity_on (opened t) side (Uu chan)) ≡ true
+  uu_opens Low chan has =
+      let none = each_flat (λ (s : PortSide). is_port (Uu chan) s.name ≡ false) (λ (row : RemoteRow). map (pc5_side (settings t) row.goal) (pc5s_of t row.remote))
+      (λ row. each_made (λ (s : PortSide). is_port (Uu chan) s.name ≡ false) (pc5_side (settings t) row.goal) (λ x. refl) (pc5s_of t row.remote)) t.remotes in
+      let s = uu_side_there chan (flat_map (λ (row : RemoteRow). map (pc5_side (settings t) row.goal) (pc5s_of t row.remote)) t.remotes) none has in
+      ap (λ (n : Node). is_some (entity_at n (Uu chan))) at_relay ∙ opens_there (new_relay t) chan s.0 s.1 s.2
+  uu_opens High chan has =
+      let none = each_flat (λ (s : PortSide). is_port (Uu chan) s.name ≡ false) (λ (row : RemoteRow). map (direct_side (settings t) row.goal) (bearers_of t row.remote))
+      (λ row. each_made (λ (s : PortSide). is_port (Uu chan) s.name ≡ false) (direct_side (settings t) row.goal) (λ x. refl) (bearers_of t row.remote)) t.remotes in
+      let s = uu_side_there chan (flat_map (λ (row : RemoteRow). map (direct_side (settings t) row.goal) (bearers_of t row.remote)) t.remotes) none has in
+      ap (λ (n : Node). is_some (entity_at n (Uu chan))) at_gnb ∙ opens_there (new_gnb t) chan s.0 s.1 s.2
 
   ---- attachments
 

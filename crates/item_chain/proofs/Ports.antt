@@ -1,19 +1,21 @@
 -- One port moves as a side of it is called: the other ports, the sides and the air are as before.
-use Rattle.std.proofs.Common.{◌≡◌, ◌⊎◌, inl, inr, ℕ, Bool, List, [], ◌∷◌, ◌++◌, Option, Some, None, refl, sym, ◌∙◌, ap, subst}
+use Rattle.std.proofs.Common.{◌≡◌, ◌⊎◌, inl, inr, ℕ, Bool, true, List, [], ◌∷◌, ◌++◌, Option, Some, None, is_some, refl, sym, ◌∙◌, ap, subst}
 use Rattle.std.proofs.lemmas.Bool.{false≢true}
 use Rattle.std.proofs.lemmas.Option.{none-some, same_Some}
 use Rattle.link_base.specs.declared.names.PortName.{PortName}
+use Rattle.link_base.specs.declared.names.PortName.TheVariants.{Uu}
 use Rattle.link_base.specs.declared.names.Side.{Side}
 use Rattle.link_base.specs.declared.names.Way.{Way}
 use Rattle.link_base.specs.declared.names.Way.TheVariants.{Ul, Dl}
 use Rattle.rlc_model.specs.declared.hop.Pdu.{Pdu}
-use Rattle.rlc_model.specs.Hop.{sent_from}
+use Rattle.rlc_model.specs.Hop.{on_air, sent_from}
 use Rattle.rlc_model.specs.Rx.{Rx}
 use Rattle.rlc_model.specs.Sides.{Entity, flip, way_from}
 use Rattle.rlc_model.specs.Tx.{Tx}
 use Rattle.rlc_law.specs.Hop.{Hop, Event}
 use Rattle.rlc_law.specs.Ports.{Port, Ports, hop_of, IsSide, MovesSide, HasMade, Changes, PortsFit}
 use Rattle.rlc_law.specs.Sides.{SidesFit}
+use Rattle.rlc_law.proofs.Crossing.{was_or_came}
 use Rattle.rlc_law.proofs.Opening.{call_fits}
 use Rattle.node_model.specs.Names.{is_port, is_way}
 use Rattle.chain_law.specs.Entities.{port_settings}
@@ -22,7 +24,7 @@ use Rattle.item_law.proofs.base.Puts.{of_number, of_way, cases_same}
 use Rattle.item_place.specs.Places.{Station, Link, Box}
 use Rattle.item_place.specs.HopFits.{HopFits}
 use Rattle.item_chain.specs.View.{View, is_side, put_at}
-use Rattle.item_chain.specs.Stands.{FitsDirect, IsOpenBy, kind_at, PathsFit, Ghost, Stands}
+use Rattle.item_chain.specs.Stands.{FitsDirect, IsOpenBy, kind_at, PathsFit, OpeningsFit, Ghost, Stands}
 use Rattle.item_chain.proofs.Tags.{IsQuiet, quiet_tags, direct_tx}
 use Rattle.item_chain.proofs.Puts.{of_side, of_port, at_all, at_changes, cases_both}
 
@@ -136,7 +138,7 @@ module _ (g : Ghost) (v : View) (st : Stands g v) (at : Side) (name : PortName) 
         (quiet_tags (hop_of own.0 way) (hop_of behind way) event quiet moves.moves.happens)
 
     -- sides are open as they were
-    pub paths_after : PathsFit g.chain.path entities_after v.attached v.plan
+    pub paths_after : PathsFit v.tables g.chain.path entities_after v.attached v.plan
     paths_after = record {
       opens = at_all of_side of_port v.entity at name (Some entity_after) (λ b q x. (y : Entity) → x ≡ Some y → IsOpenBy g.chain.path (kind_at b q) q y.epoch)
           (λ y is. subst (IsOpenBy g.chain.path (kind_at at name) name) (ap (λ (z : Entity). z.epoch) (same_Some entity_after y is)) (st.paths.opens at name e is_open))
@@ -144,12 +146,44 @@ module _ (g : Ghost) (v : View) (st : Stands g v) (at : Side) (name : PortName) 
       ids = st.paths.ids;
       agree = st.paths.agree;
       plans = st.paths.plans;
+      listed = st.paths.listed;
+      lasts = st.paths.lasts;
     }
+
+    -- a port that was opened still is
+    still_opened : (n : PortName) (f : ℕ) → (p : Port) × (g.ports n f ≡ Some p) → (p : Port) × (ports_after n f ≡ Some p)
+    still_opened n f was = elim (cases_both of_port of_number name n e.epoch f) [
+      | inl same ↦ (behind, ap (λ (n : PortName). ports_after n f) same.0 ∙ ap (ports_after name) same.1 ∙ called.1.here)
+      | inr ne ↦ (was.0, called.1.others n f ne ∙ was.1)
+    ]
+
+    openings_with : (air : List (Option Pdu)) → ((ticket : ℕ) (pdu : Pdu) → on_air air ticket ≡ Some pdu → (p : Port) × (g.ports pdu.port pdu.epoch ≡ Some p))
+        → OpeningsFit v.tables g.chain.path ports_after g.epochs air entities_after v.size v.there
+    openings_with air aired = record {
+      aired = λ ticket pdu on. still_opened pdu.port pdu.epoch (aired ticket pdu on);
+      fresh = st.openings.fresh;
+      uus = λ b chan has. at_all of_side of_port v.entity at name (Some entity_after) (λ b q x. is_some (v.entity b q) ≡ true → is_some x ≡ true)
+          (λ was. refl) (λ b q ne was. was) b (Uu chan) (st.openings.uus b chan has);
+      sizes = st.openings.sizes;
+      nodes = st.openings.nodes;
+    }
+
+    pub openings_after : OpeningsFit v.tables g.chain.path ports_after g.epochs v.air entities_after v.size v.there
+    openings_after = openings_with v.air st.openings.aired
+
+    openings_sent : (status : Bool) (number : ℕ) (bytes : List ℕ)
+        → OpeningsFit v.tables g.chain.path ports_after g.epochs (v.air ++ Some (sent_from name at e.epoch status number bytes) ∷ []) entities_after v.size v.there
+    openings_sent status number bytes = openings_with (v.air ++ Some (sent_from name at e.epoch status number bytes) ∷ [])
+        (λ ticket pdu on. elim (was_or_came v.air (sent_from name at e.epoch status number bytes) ticket pdu on) [
+          | inl was ↦ st.openings.aired ticket pdu was
+          | inr came ↦ subst (λ (x : Pdu). (p : Port) × (g.ports x.port x.epoch ≡ Some p)) came (own.0, own.1)
+        ])
 
     -- no item moves, and a PDU may have been sent
     module _ (quiet : IsQuiet event) (fits : HopFits g.spell (hop_of behind way) (g.layout.box (Link name way e.epoch))) where
-      stands_with : (air : List (Option Pdu)) → PortsFit ports_after air → Stands (record g { ports = ports_after }) (record v { entity = entities_after; air = air })
-      stands_with air made = record {
+      stands_with : (air : List (Option Pdu)) → PortsFit ports_after air → OpeningsFit v.tables g.chain.path ports_after g.epochs air entities_after v.size v.there
+          → Stands (record g { ports = ports_after }) (record v { entity = entities_after; air = air })
+      stands_with air made openings = record {
         good = st.good;
         reaches = st.reaches;
         layout = st.layout;
@@ -164,12 +198,13 @@ module _ (g : Ghost) (v : View) (st : Stands g v) (at : Side) (name : PortName) 
         unopened = λ n f none. st.unopened n f (unopened_after n f none);
         places = st.places;
         paths = paths_after;
+        openings = openings;
         ends = st.ends;
       }
 
       pub port_moves : Stands (record g { ports = ports_after }) (record v { entity = entities_after })
-      port_moves = stands_with v.air air_after
+      port_moves = stands_with v.air air_after openings_after
 
       pub port_sends : (status : Bool) (number : ℕ) (bytes : List ℕ) → HasMade behind (way_from at) status number bytes
           → Stands (record g { ports = ports_after }) (record v { entity = entities_after; air = v.air ++ Some (sent_from name at e.epoch status number bytes) ∷ [] })
-      port_sends status number bytes made = stands_with _ (air_sent status number bytes made)
+      port_sends status number bytes made = stands_with _ (air_sent status number bytes made) (openings_sent status number bytes)

@@ -1,6 +1,6 @@
 -- A pull: the item at the front of a queue goes to the transmitter of the queue's port.
 use mathlib.Core.Path.{fun_ext}
-use Rattle.std.proofs.Common.{◌≡◌, inl, inr, ℕ, ◌==◌, ◌&&◌, List, [], ◌∷◌, Option, Some, None, refl, sym, ◌∙◌, ap, subst}
+use Rattle.std.proofs.Common.{◌≡◌, inl, inr, ℕ, ◌==◌, ◌&&◌, List, [], ◌∷◌, ◌++◌, length, Option, Some, None, refl, sym, ◌∙◌, ap, subst}
 use Rattle.std.specs.Option.{unwrap_or, option_map, option_and_then}
 use Rattle.std.proofs.lemmas.Bool.{and_parts}
 use Rattle.std.proofs.lemmas.Option.{none-some, same_Some}
@@ -14,9 +14,10 @@ use Rattle.link_base.specs.declared.names.Way.TheVariants.{Ul, Dl}
 use Rattle.link_base.specs.declared.rlc_words.Tag.{Tag}
 use Rattle.bearer_map.specs.declared.rows.MapRow.{MapRow}
 use Rattle.rlc_model.specs.Sides.{Entity, way_from}
-use Rattle.rlc_model.specs.Tx.{Tx, Gives}
-use Rattle.rlc_law.specs.Hop.{Give}
+use Rattle.rlc_model.specs.Tx.{Tx, Kept, Gives}
+use Rattle.rlc_law.specs.Hop.{Hop, Give}
 use Rattle.rlc_law.specs.Ports.{Port, hop_of, IsSide, MovesSide}
+use Rattle.rlc_law.proofs.Inductive.{reaches_inv}
 use Rattle.rlc_law.proofs.Moving.{give_moves}
 use Rattle.script_text.specs.declared.event.Event.{Event}
 use Rattle.script_text.specs.declared.reply.Reply.{Reply}
@@ -39,14 +40,14 @@ use Rattle.item_place.specs.Places.{Station, Link, Ingress, Egress, Box, at, mov
 use Rattle.item_place.specs.HopFits.{HopFits}
 use Rattle.item_place.proofs.Moving.{moves_on, queue_of as spot_in_queue}
 use Rattle.item_chain.specs.View.{View, view, is_side, put_at}
-use Rattle.item_chain.specs.Stands.{FitsDirect, routed_for, egress_of, IsParcel, RowFits, as_list, IsQueued, IsLongEnough, IsOpenBy, kind_at, item_tables, Ghost, Stands, Refines}
+use Rattle.item_chain.specs.Stands.{id_of, BearIds, FitsDirect, routed_for, egress_of, IsParcel, RowFits, as_list, IsQueued, IsLongEnough, IsOpenBy, kind_at, item_tables, Ghost, Stands, Refines}
 use Rattle.item_chain.proofs.Puts.{of_port}
 use Rattle.item_chain.proofs.Views.{same_node, relay_set}
-use Rattle.item_chain.proofs.Ports.{own, ports_after, sides_after, air_after, unopened_after, hops_after, directs_after, paths_after, link_port, link_epoch}
+use Rattle.item_chain.proofs.Ports.{own, ports_after, sides_after, air_after, unopened_after, hops_after, directs_after, paths_after, openings_after, link_port, link_epoch}
 use Rattle.item_chain.proofs.Quiet.{given_fits}
 use Rattle.item_chain.proofs.Rows.{front, row_pop, row_from, row_other, box_to, box_other, parcel_keeps}
 use Rattle.item_chain.proofs.Pushes.{egress_is, put_kept, ingress_egress, link_ingress, link_egress}
-use Rattle.item_chain.proofs.Tags.{direct_spot, standing}
+use Rattle.item_chain.proofs.Tags.{bears_more, direct_spot, standing}
 use Rattle.item_chain.proofs.Goings.{stays, one_step, reaches_on}
 
 routed_queue : (to q : Remote) (x : Spot) → x ≡ InQueue to → routed_for x ≡ Some q → to ≡ q
@@ -134,16 +135,32 @@ module _ (g : Ghost) (v : View) (st : Stands g v) (side : Side) (port : PortName
   not_arrived : g.chain.spot n ≡ Arrived → ⊥
   not_arrived = let was = st.layout.stands A row.from n its.1 in standing v.tables was.0 (g.chain.spot n) A was.2
 
-  -- the port is none of a bearer
-  no_tags : (i : Item) (b : Box) (tx : Tx) (w : Way) → SecondBy v.tables i w r (epoch_at (g.chain.path r) RelayKind) port e.epoch
-      → FitsDirect port (way_from side) v.tables g.chain.items after.spot b tx
-  no_tags i b tx Ul by = subst (λ (q : PortName). FitsDirect q (way_from side) v.tables g.chain.items after.spot b tx) (sym by.2) tt
-  no_tags i b tx Dl by = subst (λ (q : PortName). FitsDirect q (way_from side) v.tables g.chain.items after.spot b tx) (sym by.2) tt
+  abbrev before : Hop
+  before = hop_of port_own.0 (way_from side)
+
+  -- the hop has as many SDUs as were given
+  as_many : length (g.layout.box B).log ≡ length before.tx.kept
+  as_many = (st.hops port e.epoch port_own.0 port_own.1 (way_from side)).long ∙ (reaches_inv before (st.ports.reaches port e.epoch port_own.0 port_own.1 (way_from side))).tx.long
+
+  abbrev new_kept : Kept
+  new_kept = record { tag = tag; sdu = x.sdu; flags = []; retx_count = None }
+
+  -- the port is none of a bearer, and a Uu port's tag has the identity
+  tags_fit : tag.ue ≡ id_of parcel.item.goal → (w : Way) → SecondBy v.tables parcel.item w r (epoch_at (g.chain.path r) RelayKind) port e.epoch
+      → FitsDirect port (way_from side) v.tables g.chain.items after.spot (box B) (hop_of moves.0 (way_from side)).tx
+  tags_fit bears Ul by = subst (λ (q : PortName). FitsDirect q (way_from side) v.tables g.chain.items after.spot (box B) (hop_of moves.0 (way_from side)).tx) (sym by.2)
+      (subst (λ (b : Box). BearIds g.chain.items b (hop_of moves.0 (way_from side)).tx) (sym (box_to g.layout.box A row.from B n apart))
+      (bears_more g.chain.items n parcel.item (g.layout.box B) before.tx (hop_of moves.0 (way_from side)).tx new_kept parcel.is as_many
+      (ap (λ (x : Tx). x.kept) (sym moves.1.here.its_tx ∙ gives.is) ∙ ap (λ (x : Tx). x.kept ++ Some new_kept ∷ []) port_own.2.its_tx) bears
+      (subst (λ (q : PortName). FitsDirect q (way_from side) v.tables g.chain.items g.chain.spot (g.layout.box B) before.tx) by.2
+      (st.directs port e.epoch port_own.0 port_own.1 (way_from side)))))
+  tags_fit bears Dl by = subst (λ (q : PortName). FitsDirect q (way_from side) v.tables g.chain.items after.spot (box B) (hop_of moves.0 (way_from side)).tx) (sym by.2) tt
 
   -- the egress goes in this way, over the port of the item's second hop
-  pub pull_items : x.route.key.way ≡ way_from side → SecondBy v.tables parcel.item (way_from side) r (epoch_at (g.chain.path r) RelayKind) port e.epoch
+  pub pull_items : x.route.key.way ≡ way_from side → tag.ue ≡ id_of parcel.item.goal → SecondBy v.tables parcel.item (way_from side) r (epoch_at
+      (g.chain.path r) RelayKind) port e.epoch
       → Refines v.tables g (record v { entity = put_at is_side is_port v.entity side port (Some (record e { tx = tx })); queue = queue_after })
-  pull_items way goes = record {
+  pull_items way bears goes = record {
     ghost = record g {
       chain = after;
       layout = record g.layout { box = box };
@@ -165,15 +182,16 @@ module _ (g : Ghost) (v : View) (st : Stands g v) (side : Side) (port : PortName
           (st.hops port e.epoch port_own.0 port_own.1 (way_from side))))
           (λ q f p is w ne. subst (HopFits g.spell (hop_of p w)) (sym (box_other g.layout.box A row.from B n apart (Link q w f) (link_egress q port w f) ne)) (st.hops q f p is w));
       directs = directs_after g v st side port e is_open (way_from side) (Give tag x.sdu) tx e.rx moves.0 moves.1 g.chain.items after.spot box
-          (no_tags parcel.item (box B) (hop_of moves.0 (way_from side)).tx (way_from side) goes)
+          (tags_fit bears (way_from side) goes)
           (λ q f p is w ne. subst (λ (b : Box). FitsDirect q w v.tables g.chain.items after.spot b (hop_of p w).tx)
           (sym (box_other g.layout.box A row.from B n apart (Link q w f) (link_egress q port w f) ne))
           (direct_spot v.tables g.chain.items g.chain.spot w q (g.layout.box (Link q w f)) (hop_of p w).tx n X not_arrived (st.directs q f p is w)));
       unopened = λ q f none w.
           let was = unopened_after g v st side port e is_open (way_from side) (Give tag x.sdu) tx e.rx moves.0 moves.1 q f none in
           ap (λ (b : Box). b.log) (box_other g.layout.box A row.from B n apart (Link q w f) (link_egress q port w f) (λ h. not_here q w f was h)) ∙ st.unopened q f was w;
-      places = record { slots = slots; queues = queues };
+      places = record { slots = slots; queues = queues; own = st.places.own };
       paths = paths_after g v st side port e is_open (way_from side) (Give tag x.sdu) tx e.rx moves.0 moves.1;
+      openings = openings_after g v st side port e is_open (way_from side) (Give tag x.sdu) tx e.rx moves.0 moves.1;
       ends = st.ends;
     };
   }
@@ -212,7 +230,7 @@ module _ (g : Ghost) (old : Chain) (st : Stands g (view old)) (port : PortName) 
         queue =
             put is_port v.queue port x.parcels;
       }
-  pulled_view side relay = ap (λ (n : Node). view (set_node old n)) x.is ∙ relay_set old side port x.side new_side relay x.its.here refl
+  pulled_view side relay = ap (λ (n : Node). view (set_node old n)) x.is ∙ relay_set old side port x.side new_side relay x.its.here refl refl
       ∙ ap (λ (s : PortName → Option Parcel). record v {
         entity = put_at is_side is_port v.entity side port (Some (record x.entity { tx = x.tx }));
         slot = s;
@@ -234,7 +252,8 @@ module _ (g : Ghost) (old : Chain) (st : Stands g (view old)) (port : PortName) 
       ∙ x.its.is_open in
       let i = its g v st side port x.entity is_open x.parcel x.parcels has (parcel_tag x.parcel) number x.tx x.gives in
       subst (Refines old.tables g) (sym (pulled_view side relay))
-      (pull_items g v st side port x.entity is_open x.parcel x.parcels has (parcel_tag x.parcel) number x.tx x.gives way (goes i.2.1.item i.2.1.drb x.entity is_open))
+      (pull_items g v st side port x.entity is_open x.parcel x.parcels has (parcel_tag x.parcel) number x.tx x.gives way (sym (ap id_of i.2.1.ue))
+      (goes i.2.1.item i.2.1.drb x.entity is_open))
 
   by_way : (w : Way) → x.parcel.route.key.way ≡ w → (row : MapRow) → map_row v.tables its_remote x.parcel.route.key.drb ≡ Some row → row.remote ≡ its_remote
       → port ≡ egress_of w row

@@ -1,8 +1,8 @@
 -- A push: the item in a slot goes to the end of a queue.
 use mathlib.Core.Path.{fun_ext}
-use Rattle.std.proofs.Common.{◌≡◌, inl, inr, ℕ, Bool, List, [], ◌∷◌, ◌++◌, Option, Some, None, refl, sym, ◌∙◌, ap, subst}
+use Rattle.std.proofs.Common.{◌≡◌, inl, inr, ℕ, Bool, true, List, [], ◌∷◌, ◌++◌, Option, Some, None, refl, sym, ◌∙◌, ap, subst}
 use Rattle.std.specs.Option.{unwrap_or, option_map, option_and_then}
-use Rattle.std.proofs.lemmas.Option.{same_Some}
+use Rattle.std.proofs.lemmas.Option.{none-some, same_Some}
 use Rattle.link_base.specs.declared.names.PortName.{PortName}
 use Rattle.link_base.specs.declared.names.Remote.{Remote}
 use Rattle.link_base.specs.declared.names.Way.{Way}
@@ -12,7 +12,7 @@ use Rattle.script_text.specs.declared.reply.Reply.{Reply}
 use Rattle.node_model.specs.declared.answers.PushReply.{PushReply}
 use Rattle.node_model.specs.declared.answers.PushReply.TheVariants as pushed
 use Rattle.node_model.specs.declared.parcel.Parcel.{Parcel}
-use Rattle.node_model.specs.Names.{AtRelay, is_port}
+use Rattle.node_model.specs.Names.{AtRelay, is_port, is_of}
 use Rattle.node_model.specs.State.{PortSide, Node, side_at, slot_of, queue_of, set_side}
 use Rattle.node_model.specs.Relaying.{Pushes, PushesPort}
 use Rattle.chain_model.specs.State.{Chain, node_at, set_node}
@@ -127,6 +127,12 @@ module _ (g : Ghost) (v : View) (st : Stands g v) (p : PortName) (x : Parcel) (f
         (Egress q) (v.queue q) (λ h. ingress_egress p q (sym h)) (λ h. ne (egress_is q e h)) (st.places.queues q))
   ]
 
+  owns : (q : PortName) (y : Parcel) → slot_after q ≡ Some y → (o : Remote) → is_of o q ≡ true → y.route.key.remote ≡ o
+  owns q y is o of = elim (cases_same of_port q p) [
+    | inl same ↦ absurd (none-some y (sym (ap slot_after same ∙ put_same of_port v.slot p None) ∙ is))
+    | inr ne ↦ st.places.own q y (sym (put_other of_port v.slot p None q ne) ∙ is) o of
+  ]
+
   -- it has not arrived
   not_arrived : g.chain.spot n ≡ Arrived → ⊥
   not_arrived = let was = st.layout.stands A row.from n its.1 in standing v.tables was.0 (g.chain.spot n) A was.2
@@ -150,8 +156,9 @@ module _ (g : Ghost) (v : View) (st : Stands g v) (p : PortName) (x : Parcel) (f
           (direct_spot v.tables g.chain.items g.chain.spot w q (g.layout.box (Link q w f)) (hop_of port w).tx n (InQueue r) not_arrived (st.directs q f port is w));
       unopened = λ q f none w. ap (λ (b : Box). b.log) (box_other g.layout.box A row.from B n apart (Link q w f) (link_ingress q p w f) (link_egress q e w f))
           ∙ st.unopened q f none w;
-      places = record { slots = slots; queues = queues };
+      places = record { slots = slots; queues = queues; own = owns };
       paths = st.paths;
+      openings = st.openings;
       ends = st.ends;
     };
   }
@@ -205,7 +212,7 @@ module _ (g : Ghost) (old : Chain) (st : Stands g (view old)) (port egress : Por
   full = ap (option_and_then slot_of) x.here ∙ x.full
 
   v1 : view first ≡ record v { slot = put is_port v.slot port None; queue = put is_port v.queue port x.from.queue }
-  v1 = relay_side_set old port x.from emptied x.here refl refl
+  v1 = relay_side_set old port x.from emptied x.here refl refl refl
 
   slot1 : (q : PortName) → (view first).slot q ≡ put is_port v.slot port None q
   slot1 q = ap (λ (w : View). w.slot q) v1
@@ -214,7 +221,7 @@ module _ (g : Ghost) (old : Chain) (st : Stands g (view old)) (port egress : Por
   queue1 q = ap (λ (w : View). w.queue q) v1 ∙ put_kept of_port v.queue port x.from.queue (ap (λ (o : Option PortSide). unwrap_or (option_map queue_of o) []) x.here) q
 
   v2 : view second ≡ record (view first) { slot = put is_port (view first).slot egress x.to.slot; queue = put is_port (view first).queue egress longer.queue }
-  v2 = relay_side_set first egress x.to longer there refl refl
+  v2 = relay_side_set first egress x.to longer there refl refl refl
 
   slots_are : put is_port (view first).slot egress x.to.slot ≡ put is_port v.slot port None
   slots_are = fun_ext (λ q. put_kept of_port (view first).slot egress x.to.slot (ap (option_and_then slot_of) there) q ∙ slot1 q)

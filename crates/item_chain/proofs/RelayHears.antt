@@ -39,7 +39,7 @@ slot_taken old at port side relay here x parcel =
     let v = view old in
     let new : PortSide = record side { entity = Some x; slot = Some parcel } in
     ap (λ (n : Node). view (set_node old n)) (side_twice (node_at old AtRelay) (record side { entity = Some x }) new refl)
-    ∙ relay_set old at port side new relay here refl
+    ∙ relay_set old at port side new relay here refl refl
     ∙ ap (λ (f : PortName → List Parcel). record v { entity = put_at is_side is_port v.entity at port (Some x); slot = put is_port v.slot port (Some parcel); queue = f })
     (fun_ext (λ q. put_kept of_port v.queue port side.queue (ap (λ (o : Option PortSide). unwrap_or (option_map queue_of o) []) here) q))
 

@@ -1,6 +1,7 @@
 -- What completes at the relay goes into its slot by the route of its item.
 use Rattle.std.proofs.Common.{◌≡◌, ℕ, List, Some, None, option_map, refl, sym, ◌∙◌, ap, subst, ◌+◌}
 use Rattle.std.specs.List.{slice_index}
+use Rattle.std.proofs.lemmas.Bool.{false≢true}
 use Rattle.link_base.specs.declared.names.Chan.{Chan}
 use Rattle.link_base.specs.declared.names.Drb.{Drb}
 use Rattle.link_base.specs.declared.names.LocalId.{LocalId}
@@ -22,6 +23,7 @@ use Rattle.rlc_law.specs.PortLaws.{HearsDataMade}
 use Rattle.srap_header.specs.Srap.{Srap, IsSrap}
 use Rattle.node_model.specs.Names.{AtRelay, is_port}
 use Rattle.node_model.specs.Tables.{map_row}
+use Rattle.node_model.proofs.Names.{remote_is}
 use Rattle.item_law.specs.State.{ToRelay, Item, InSlot, is_over_relay, put, epoch_at, goal_at}
 use Rattle.item_law.specs.Steps.{complete_relay, IsOpenAtRelay, RelayRoutes}
 use Rattle.item_law.proofs.base.Puts.{of_number, put_same}
@@ -82,6 +84,7 @@ module _ (g : Ghost) (v : View) (st : Stands g v) (e : Entity) (number : ℕ) (b
         ))
         (subst (λ (w : Way). RelayRoutes (item_tables v.tables) g.chain i w q) (sym f.way) (own, here, record { chan = row.uu; is = ap (option_map uu_of) has }))
         refl)
+        (λ r of. maps.of_remote ∙ sym (remote_is r q of))
         (record {
           item = i;
           is = is;
@@ -135,6 +138,7 @@ module _ (g : Ghost) (v : View) (st : Stands g v) (e : Entity) (number : ℕ) (b
           },
         ))
         refl)
+        (λ r of. absurd (false≢true of))
         (record {
           item = i;
           is = is;

@@ -184,6 +184,7 @@ submit_refines g old st key sdu events reply new does = elim (cases_Bool (has_be
           unopened = st.unopened;
           places = st.places;
           paths = st.paths;
+          openings = st.openings;
           ends = ends;
         } in
         let seen : view new ≡ record (view old) { outgoing = put_at is_node is_key (view old).outgoing (source key) key (Some new_out) } =

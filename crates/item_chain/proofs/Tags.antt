@@ -1,8 +1,9 @@
 -- The tags of SDUs stay until they are confirmed, and what fits a direct port does so behind each change.
-use Rattle.std.proofs.Common.{◌≡◌, inl, inr, ℕ, true, List, Option, Some, refl, sym, ◌∙◌, ap, subst}
+use Rattle.std.proofs.Common.{◌≡◌, inl, inr, ℕ, true, List, [], ◌∷◌, ◌++◌, length, get_or, Option, Some, None, refl, sym, ◌∙◌, ap, subst, arith}
 use Rattle.std.specs.List.{slice_get}
 use Rattle.std.proofs.lemmas.Bool.{cases_Bool, cases_eq}
-use Rattle.std.proofs.lemmas.Option.{none-some, same_Some}
+use Rattle.std.proofs.lemmas.List.{get_or_append_left}
+use Rattle.std.proofs.lemmas.Option.{none-some, same_Some, slice_get_within}
 use Rattle.link_base.specs.declared.names.PortName.{PortName}
 use Rattle.link_base.specs.declared.names.PortName.TheVariants.{Direct, Pc5, Uu}
 use Rattle.link_base.specs.declared.names.Way.{Way}
@@ -19,8 +20,10 @@ use Rattle.rlc_law.proofs.Grant.{next_was}
 use Rattle.item_law.specs.State.{Item, Spot, Arrived, is_number, put}
 use Rattle.item_law.proofs.base.Puts.{of_number, put_same, put_other}
 use Rattle.item_place.proofs.Boxes.{at_log}
-use Rattle.item_place.specs.Places.{Station, Box, at, leave, IsSpot, first, slot, queue, second}
-use Rattle.item_chain.specs.Stands.{IsTag, FitsDirect}
+use Rattle.item_place.proofs.Pushed.{push_was}
+use Rattle.item_place.specs.Places.{Station, Box, at, leave, enter, IsSpot, first, slot, queue, second}
+use Rattle.item_chain.specs.Stands.{id_of, IsTag, BearIds, FitsDirect}
+use Rattle.item_chain.proofs.Quiet.{at_end}
 
 -- each SDU kept was kept before under its tag
 abbrev pub KeepsTags : Tx → Tx → Type 0
@@ -109,7 +112,7 @@ module _ (t : Contents) (items : ℕ → Option Item) (spot : ℕ → Spot) (w :
     tags = λ k n i kept among is has. let j = keeps k kept has in subst (IsTag t i.key i.content) (sym j.2) (f.tags k n i j.0 among is j.1);
   }
   direct_tx (Pc5 r c) b old new keeps f = tt
-  direct_tx (Uu c) b old new keeps f = tt
+  direct_tx (Uu c) b old new keeps f = λ k n i kept among is has. let j = keeps k kept has in ap (λ (g : Tag). g.ue) j.2 ∙ f k n i j.0 among is j.1
 
   -- an item goes elsewhere that has not arrived
   pub direct_spot : (name : PortName) (b : Box) (tx : Tx) (m : ℕ) (x : Spot) → (spot m ≡ Arrived → ⊥) → FitsDirect name w t items spot b tx
@@ -120,7 +123,7 @@ module _ (t : Contents) (items : ℕ → Option Item) (spot : ℕ → Spot) (w :
     tags = f.tags;
   }
   direct_spot (Pc5 r c) b tx m x moves f = tt
-  direct_spot (Uu c) b tx m x moves f = tt
+  direct_spot (Uu c) b tx m x moves f = f
 
   -- an item leaves the port as it arrives
   pub direct_left : (name : PortName) (b : Box) (tx : Tx) (x m : ℕ) (to : Spot) → at b x ≡ Some m → (spot m ≡ Arrived → ⊥) → OnlyArrives name to
@@ -139,7 +142,21 @@ module _ (t : Contents) (items : ℕ → Option Item) (spot : ℕ → Spot) (w :
     tags = f.tags;
   }
   direct_left (Pc5 r c) b tx x m to here moves arrives f = tt
-  direct_left (Uu c) b tx x m to here moves arrives f = tt
+  direct_left (Uu c) b tx x m to here moves arrives f = f
+
+-- the identities of a Uu port's tags where an item comes to its end
+pub bears_more : (items : ℕ → Option Item) (n : ℕ) (i : Item) (b : Box) (old new : Tx) (kept : Kept) → items n ≡ Some i → length b.log ≡ length old.kept
+    → new.kept ≡ old.kept ++ Some kept ∷ [] → kept.tag.ue ≡ id_of i.goal → BearIds items b old → BearIds items (enter b n) new
+bears_more items n i b old new kept its long is bears fits k m j x e among has = elim (push_was b.log n k m e) [
+  | inl was ↦ fits k m j x was among
+      (sym (get_or_append_left old.kept (Some kept ∷ []) None k (omega (arith, slice_get_within b.log k m was, long)))
+      ∙ ap (λ (xs : List (Option Kept)). get_or xs k None) (sym is) ∙ has)
+  | inr now ↦
+      let same_item : i ≡ j = same_Some i j (sym its ∙ ap items (sym now.1) ∙ among) in
+      let same_kept : kept ≡ x = same_Some kept x (sym (ap (λ (k : ℕ). get_or (old.kept ++ Some kept ∷ []) k None) (now.0 ∙ long) ∙ at_end old.kept (Some kept) None)
+      ∙ ap (λ (xs : List (Option Kept)). get_or xs k None) (sym is) ∙ has) in
+      ap (λ (x : Kept). x.tag.ue) (sym same_kept) ∙ bears ∙ ap (λ (i : Item). id_of i.goal) same_item
+]
 
 -- what stands somewhere has not arrived
 pub standing : (t : Contents) (i : Item) (x : Spot) (a : Station) → IsSpot t i x a → x ≡ Arrived → ⊥

@@ -1,6 +1,6 @@
 -- What a chain shows behind a change of one of its nodes.
 use mathlib.Core.Path.{fun_ext}
-use Rattle.std.proofs.Common.{◌≡◌, inl, inr, Bool, true, cond, List, [], ◌∷◌, Option, Some, option_map, refl, sym, ◌∙◌, ap, subst}
+use Rattle.std.proofs.Common.{◌≡◌, inl, inr, Bool, true, cond, List, [], ◌∷◌, find, Option, Some, is_some, option_map, refl, sym, ◌∙◌, ap, subst}
 use Rattle.std.specs.Option.{unwrap_or, option_and_then}
 use Rattle.std.proofs.lemmas.Bool.{cases_Bool, cond-true, cond-false}
 use Rattle.std.proofs.lemmas.Option.{none-some}
@@ -8,6 +8,7 @@ use Rattle.link_base.specs.declared.names.Key.{Key}
 use Rattle.link_base.specs.declared.names.PortName.{PortName}
 use Rattle.link_base.specs.declared.names.Remote.{Remote}
 use Rattle.link_base.specs.declared.names.Side.{Side}
+use Rattle.link_base.specs.declared.names.SnSize.{SnSize}
 use Rattle.bearer_map.specs.declared.ids.Attachment.{Attachment}
 use Rattle.bearer_map.specs.Contents.{Contents}
 use Rattle.rlc_model.specs.declared.hop.Pdu.{Pdu}
@@ -15,24 +16,25 @@ use Rattle.rlc_model.specs.Sides.{Entity}
 use Rattle.node_model.specs.declared.parcel.Parcel.{Parcel}
 use Rattle.node_model.specs.Names.{NodeName, AtRelay, is_node, is_port, is_key, owner, replaced}
 use Rattle.node_model.specs.State.{PortSide, Outgoing, Incoming, Node, side_at, entity_of, entity_at, slot_of, queue_of, slot_at, queue_at, set_side, set_entity, outgoing_at, incoming_at, set_outgoing, set_incoming, no_node}
-use Rattle.node_model.proofs.Names.{owner_side, node_refl, port_refl}
+use Rattle.node_model.proofs.Names.{cases_node, owner_side, node_refl, port_refl}
+use Rattle.node_model.proofs.Finding.{find_none}
 use Rattle.chain_model.specs.declared.plan.Plan.{Plan}
 use Rattle.chain_model.specs.State.{Chain, node_at, set_node, entity_on}
 use Rattle.chain_model.specs.Places.{find_node}
-use Rattle.chain_model.proofs.Lookups.{with_row, set_here, out_own, out_others, in_own, in_others, cases_found}
+use Rattle.chain_model.proofs.Lookups.{sets_nodes, with_row, set_here, out_own, out_others, in_own, in_others, cases_found}
 use Rattle.chain_law.proofs.Chains.{node_name, node_there, node_set, node_kept}
 use Rattle.chain_law.proofs.Laws.{one_side_changes}
 use Rattle.rlc_law.specs.Ports.{Changes}
 use Rattle.item_law.specs.State.{put}
 use Rattle.item_law.proofs.base.Puts.{of_key, put_same, put_other, cases_same}
-use Rattle.item_chain.specs.View.{View, view, is_side, put_at}
+use Rattle.item_chain.specs.View.{View, side_size, view, is_side, put_at}
 use Rattle.item_chain.proofs.Puts.{of_side, of_node, of_port, at_all, cases_both}
 
 -- views with the same parts are one
 pub view_is : (v w : View) → v.tables ≡ w.tables → v.entity ≡ w.entity → v.slot ≡ w.slot → v.queue ≡ w.queue → v.attached ≡ w.attached → v.outgoing ≡ w.outgoing
     → v.incoming ≡ w.incoming
-    → v.plan ≡ w.plan → v.air ≡ w.air → v ≡ w
-view_is v w t e s q a o i p r =
+    → v.plan ≡ w.plan → v.air ≡ w.air → v.size ≡ w.size → v.there ≡ w.there → v ≡ w
+view_is v w t e s q a o i p r z h =
     ap (λ (x : Contents). record v { tables = x }) t
     ∙ ap (λ (x : Side → PortName → Option Entity). record v { tables = w.tables; entity = x }) e
     ∙ ap (λ (x : PortName → Option Parcel). record v { tables = w.tables; entity = w.entity; slot = x }) s
@@ -48,8 +50,20 @@ view_is v w t e s q a o i p r =
       outgoing = w.outgoing;
       incoming = x;
     }) i
-    ∙ ap (λ (x : Remote → Option Plan). record w { plan = x; air = v.air }) p
-    ∙ ap (λ (x : List (Option Pdu)). record w { air = x }) r
+    ∙ ap (λ (x : Remote → Option Plan). record w { plan = x; air = v.air; size = v.size; there = v.there }) p
+    ∙ ap (λ (x : List (Option Pdu)). record w { air = x; size = v.size; there = v.there }) r
+    ∙ ap (λ (x : Side → PortName → Option SnSize). record w { size = x; there = v.there }) z
+    ∙ ap (λ (x : NodeName → Bool). record w { there = x }) h
+
+-- the same nodes are there once one is set
+pub there_kept : (c : Chain) (n : Node) (name : NodeName) → is_some (find_node (set_node c n) name) ≡ is_some (find_node c name)
+there_kept c n name = elim (cases_node n.name name) [
+  | inr ne ↦ ap (λ (o : Option Node). is_some o) (sets_nodes.others c n name ne)
+  | inl same ↦ subst (λ (name : NodeName). is_some (find_node (set_node c n) name) ≡ is_some (find_node c name)) same (elim (cases_found (find_node c n.name)) [
+    | inl found ↦ ap (λ (o : Option Node). is_some o) (sets_nodes.own c n found.0 found.1) ∙ sym (ap (λ (o : Option Node). is_some o) found.1)
+    | inr none ↦ ap (λ (ns : List Node). is_some (find (λ (x : Node). is_node n.name x.name) ns)) (find_none (λ (x : Node). is_node n.name x.name) n c.nodes none)
+  ])
+]
 
 module _ (c : Chain) (name : NodeName) (port : PortName) (row new : PortSide) (here : side_at (node_at c name) port ≡ Some row) (same_name : new.name ≡ row.name) where
   abbrev pub behind : Chain
@@ -105,16 +119,18 @@ entity_set c at port row here e =
     (fun_ext (λ m. rest_kept c name port row new here refl (λ (n : Node). n.attached) refl m))
     (fun_ext (λ m. rest_kept c name port row new here refl outgoing_at refl m))
     (fun_ext (λ m. rest_kept c name port row new here refl incoming_at refl m))
-    refl refl
+    refl refl (fun_ext (λ b. fun_ext (λ q. part_kept c name port row new here refl (option_map side_size) refl (owner b q) q)))
+    (fun_ext (λ m. there_kept c (set_entity (node_at c name) row e) m))
 
 -- a side at the relay is set whose entity stays
-pub relay_side_set : (c : Chain) (port : PortName) (row new : PortSide) → side_at (node_at c AtRelay) port ≡ Some row → new.name ≡ row.name → new.entity ≡ row.entity
+pub relay_side_set : (c : Chain) (port : PortName) (row new : PortSide) → side_at (node_at c AtRelay) port ≡ Some row → new.name ≡ row.name → new.size ≡ row.size
+    → new.entity ≡ row.entity
     → view (set_node c (set_side (node_at c AtRelay) new)) ≡ record (view c) {
       slot = put is_port (slot_at (node_at c AtRelay)) port new.slot;
       queue =
           put is_port (queue_at (node_at c AtRelay)) port new.queue;
     }
-relay_side_set c port row new here same_name same =
+relay_side_set c port row new here same_name same_size same =
     view_is (view (set_node c (set_side (node_at c AtRelay) new)))
     (record (view c) { slot = put is_port (slot_at (node_at c AtRelay)) port new.slot; queue = put is_port (queue_at (node_at c AtRelay)) port new.queue }) refl
     (fun_ext (λ b. fun_ext (λ q. part_kept c AtRelay port row new here same_name (option_and_then entity_of) same (owner b q) q)))
@@ -123,18 +139,19 @@ relay_side_set c port row new here same_name same =
     (fun_ext (λ m. rest_kept c AtRelay port row new here same_name (λ (n : Node). n.attached) refl m))
     (fun_ext (λ m. rest_kept c AtRelay port row new here same_name outgoing_at refl m))
     (fun_ext (λ m. rest_kept c AtRelay port row new here same_name incoming_at refl m))
-    refl refl
+    refl refl (fun_ext (λ b. fun_ext (λ q. part_kept c AtRelay port row new here same_name (option_map side_size) (ap
+    (λ (z : SnSize). Some z) same_size) (owner b q) q))) (fun_ext (λ m. there_kept c (set_side (node_at c AtRelay) new) m))
 
 -- a side at the relay is set
 pub relay_set : (c : Chain) (at : Side) (port : PortName) (row new : PortSide) → owner at port ≡ AtRelay → side_at (node_at c AtRelay) port ≡ Some row → new.name ≡ row.name
-    → view (set_node c (set_side (node_at c AtRelay) new))
+    → new.size ≡ row.size → view (set_node c (set_side (node_at c AtRelay) new))
     ≡ record (view c) {
       entity = put_at is_side is_port (entity_on c) at port new.entity;
       slot = put is_port (slot_at (node_at c AtRelay)) port new.slot;
       queue =
           put is_port (queue_at (node_at c AtRelay)) port new.queue;
     }
-relay_set c at port row new relay here same_name =
+relay_set c at port row new relay here same_name same_size =
     view_is (view (set_node c (set_side (node_at c AtRelay) new)))
     (record (view c) {
       entity = put_at is_side is_port (entity_on c) at port new.entity;
@@ -148,7 +165,8 @@ relay_set c at port row new relay here same_name =
     (fun_ext (λ m. rest_kept c AtRelay port row new here same_name (λ (n : Node). n.attached) refl m))
     (fun_ext (λ m. rest_kept c AtRelay port row new here same_name outgoing_at refl m))
     (fun_ext (λ m. rest_kept c AtRelay port row new here same_name incoming_at refl m))
-    refl refl
+    refl refl (fun_ext (λ b. fun_ext (λ q. part_kept c AtRelay port row new here same_name (option_map side_size) (ap
+    (λ (z : SnSize). Some z) same_size) (owner b q) q))) (fun_ext (λ m. there_kept c (set_side (node_at c AtRelay) new) m))
   where
     there : side_at (node_at c (owner at port)) port ≡ Some row
     there = ap (λ (m : NodeName). side_at (node_at c m) port) relay ∙ here
@@ -183,7 +201,8 @@ module _ (c : Chain) (name : NodeName) (o was : Outgoing) (here : outgoing_at (n
       (fun_ext (λ m. fun_ext (λ k. sym (at_all of_node of_key (view c).outgoing name o.key (Some o)
       (λ m k x. x ≡ outgoing_at (node_at (set_node c new_out) m) k) new others m k))))
       (fun_ext (λ m. with_row c name incoming_at new_out refl refl m))
-      refl refl
+      refl refl (fun_ext (λ b. fun_ext (λ q. with_row c name (λ (n : Node). option_map side_size (side_at n q)) new_out refl refl (owner b q))))
+      (fun_ext (λ m. there_kept c new_out m))
     where
       there : (n : Node) × (find_node c name ≡ Some n)
       there = out_there c name o.key was here
@@ -214,7 +233,8 @@ module _ (c : Chain) (name : NodeName) (i was : Incoming) (here : incoming_at (n
       (fun_ext (λ m. with_row c name outgoing_at new_in refl refl m))
       (fun_ext (λ m. fun_ext (λ k. sym (at_all of_node of_key (view c).incoming name i.key (Some i)
       (λ m k x. x ≡ incoming_at (node_at (set_node c new_in) m) k) new others m k))))
-      refl refl
+      refl refl (fun_ext (λ b. fun_ext (λ q. with_row c name (λ (n : Node). option_map side_size (side_at n q)) new_in refl refl (owner b q))))
+      (fun_ext (λ m. there_kept c new_in m))
     where
       there : (n : Node) × (find_node c name ≡ Some n)
       there = in_there c name i.key was here
@@ -240,7 +260,8 @@ same_node c name =
     (fun_ext (λ m. with_row c name (λ (n : Node). n.attached) (node_at c name) refl refl m))
     (fun_ext (λ m. with_row c name outgoing_at (node_at c name) refl refl m))
     (fun_ext (λ m. with_row c name incoming_at (node_at c name) refl refl m))
-    refl refl
+    refl refl (fun_ext (λ b. fun_ext (λ q. with_row c name (λ (n : Node). option_map side_size (side_at n q)) (node_at c name) refl refl (owner b q))))
+    (fun_ext (λ m. there_kept c (node_at c name) m))
 
 replaced_twice : {T : Type 0} (test : T → Bool) (a b : T) → test a ≡ true → (xs : List T) → replaced test b (replaced test a xs) ≡ replaced test b xs
 replaced_twice test a b is [] = refl

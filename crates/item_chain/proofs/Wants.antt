@@ -72,6 +72,7 @@ wants_refines g old st key events reply new does = elim (cases_Bool (has_bearer 
           unopened = st.unopened;
           places = st.places;
           paths = st.paths;
+          openings = st.openings;
           ends = incoming_same st.ends key now (record {
             home = refl;
             named = f.named;

@@ -1,5 +1,6 @@
 -- What a chain of items has to do with a chain whose view is this: its items are the SDUs there.
 use Rattle.std.specs.Prelude.{◌≡◌, ◌↔◌, ℕ, ◌+◌, ◌%◌, ◌<◌, ◌≤◌, ◌==◌, ◌&&◌, Bool, true, false, List, [], ◌∷◌, length, slice_get, slice_index_or, find, Option, Some, None, is_some, option_map, Contains}
+use Rattle.std.specs.List.{list_any}
 use Rattle.link_base.specs.declared.limits.TheConstants.{COUNT_END, LONGEST_RLC_SDU}
 use Rattle.link_base.specs.declared.names.Chan.{Chan}
 use Rattle.link_base.specs.declared.names.Drb.{Drb}
@@ -12,6 +13,7 @@ use Rattle.link_base.specs.declared.names.PortName.{PortName}
 use Rattle.link_base.specs.declared.names.PortName.TheVariants.{Direct, Pc5, Uu}
 use Rattle.link_base.specs.declared.names.Remote.{Remote}
 use Rattle.link_base.specs.declared.names.Side.{Side}
+use Rattle.link_base.specs.declared.names.SnSize.{SnSize}
 use Rattle.link_base.specs.declared.names.Way.{Way}
 use Rattle.link_base.specs.declared.names.Way.TheVariants.{Ul, Dl}
 use Rattle.link_base.specs.declared.rlc_words.Tag.{Tag}
@@ -19,26 +21,30 @@ use Rattle.link_base.specs.SequenceNumbers.{modulus, most_unconfirmed}
 use Rattle.bearer_map.specs.declared.ids.Attachment.{Attachment}
 use Rattle.bearer_map.specs.declared.rows.BearerRow.{BearerRow}
 use Rattle.bearer_map.specs.declared.rows.MapRow.{MapRow}
+use Rattle.bearer_map.specs.declared.rows.UuRow.{UuRow}
 use Rattle.bearer_map.specs.Contents.{Contents}
 use Rattle.bearer_map.specs.Ids.{IsAttached}
 use Rattle.pdcp_pdu.specs.Pdcp.{Pdcp, Sdu as SduPdu, Report as ReportPdu, IsBody, PdcpFits, pdcp_bytes}
 use Rattle.pdcp_model.specs.Sender.{Sender, kept_at, is_reported}
 use Rattle.pdcp_model.specs.Receiver.{Receiver, stored_at}
+use Rattle.rlc_model.specs.declared.hop.Pdu.{Pdu}
+use Rattle.rlc_model.specs.Hop.{on_air}
 use Rattle.rlc_model.specs.Sides.{Entity}
 use Rattle.rlc_model.specs.Tx.{Tx, Kept, kept_at as tx_kept_at}
 use Rattle.rlc_law.specs.Ports.{Port, Ports, hop_of, PortsFit}
 use Rattle.rlc_law.specs.Sides.{Epochs, SidesFit}
 use Rattle.node_model.specs.declared.parcel.Parcel.{Parcel}
-use Rattle.node_model.specs.Names.{NodeName, is_remote, node_of, owner, source, sink}
+use Rattle.node_model.specs.Names.{NodeName, is_remote, is_of, node_of, owner, source, sink}
 use Rattle.node_model.specs.State.{Incoming, Outgoing, id_in}
-use Rattle.node_model.specs.Tables.{map_row, first_count}
+use Rattle.node_model.specs.Tables.{has_remote, map_row, first_count}
 use Rattle.node_model.specs.Feeding.{under}
 use Rattle.node_model.specs.Relaying.{ue_of}
 use Rattle.chain_model.specs.declared.plan.Plan.{Plan}
 use Rattle.chain_model.specs.Plans.{is_open}
+use Rattle.chain_model.specs.Sizes.{port_size}
 use Rattle.chain_model.specs.Told.{first_goal, kind_of}
 use Rattle.chain_law.specs.Entities.{port_settings}
-use Rattle.item_law.specs.State.{Item, Sdu, Content, Data, Report, Spot, OnFirstHop, InSlot, InQueue, OnSecondHop, Arrived, Lost, Path, way_of, has_applied, goal_at, epoch_at, is_over_relay, TablesFit}
+use Rattle.item_law.specs.State.{Item, Sdu, Content, Data, Report, Spot, OnFirstHop, InSlot, InQueue, OnSecondHop, Arrived, Lost, Path, way_of, has_applied, goal_at, epoch_at, is_over_relay, Reserves, TablesFit}
 use Rattle.item_law.specs.State.{Tables as ItemTables, Chain as ItemChain, Sender as ItemSender, sink as sink_kind}
 use Rattle.item_law.specs.Steps.{Step}
 use Rattle.item_law.specs.World.{World, Reaches}
@@ -68,13 +74,19 @@ item_tables t = record {
   limit = λ remote drb. row_limit (row_of t remote drb);
 }
 
+-- the tables have this Uu channel
+abbrev pub has_uu : Contents → Chan → Bool
+has_uu t chan = list_any (λ (row : UuRow). chan.0 == row.chan.0) t.uus
+
 -- what is asked of tables: identities are of one remote, and the bearers of a remote that begins on the relay have rows; the identity of a bearer is from 1
--- to 32; a bearer has one row of channels
+-- to 32; a bearer has one row of channels, whose Uu channel the tables have, and rows of channels have no identities above 32
 pub record TablesGood (t : Contents) : Type 0 where
   pub fit : TablesFit (item_tables t)
   pub drbs : (remote : Remote) (drb : Drb) (row : BearerRow) → row_of t remote drb ≡ Some row → (1 ≤ drb.0) × (drb.0 ≤ 32)
   pub firsts : (remote : Remote) (drb : Drb) (row : BearerRow) → row_of t remote drb ≡ Some row → (way : Way) → first_count row way ≤ COUNT_END
   pub maps : (row : MapRow) → Contains t.maps row → map_row t row.remote row.drb ≡ Some row
+  pub uus : (row : MapRow) → Contains t.maps row → has_uu t row.uu ≡ true
+  pub mapped : (row : MapRow) → Contains t.maps row → row.drb.0 ≤ 32
 
 -- the path that a local identity stands for, or none
 abbrev pub goal_of : Option LocalId → Goal
@@ -150,10 +162,11 @@ as_list (Some x) = x ∷ []
 abbrev pub IsQueued : (Parcel → ℕ → Type 0) → PortName → Parcel → ℕ → Type 0
 IsQueued P p x n = (x.route.egress ≡ p) × P x n
 
--- slots and queues are rows of boxes
+-- slots and queues are rows of boxes, and the SDU in the slot of a remote's port was routed for this remote
 pub record PlacesFit (P : Parcel → ℕ → Type 0) (box : Station → Box) (slot : PortName → Option Parcel) (queue : PortName → List Parcel) : Type 0 where
   pub slots : (p : PortName) → RowFits P (box (Ingress p)) (as_list (slot p))
   pub queues : (p : PortName) → RowFits (IsQueued P p) (box (Egress p)) (queue p)
+  pub own : (p : PortName) (x : Parcel) → slot p ≡ Some x → (remote : Remote) → is_of remote p ≡ true → x.route.key.remote ≡ remote
 
 -- the tag of a data PDU has its key and its COUNT, that of a status report no COUNT
 abbrev pub IsTag : Contents → Key → Content → Tag → Type 0
@@ -166,11 +179,15 @@ pub record DirectFits (remote : Remote) (drb : Drb) (way : Way) (t : Contents) (
   pub arrived : (k n : ℕ) → slice_get b.log k ≡ Some n → b.left k ≡ true → spot n ≡ Arrived
   pub tags : (k n : ℕ) (i : Item) (kept : Kept) → slice_get b.log k ≡ Some n → items n ≡ Some i → tx_kept_at tx k ≡ Some kept → IsTag t i.key i.content kept.tag
 
--- the same where the port is direct
+-- what a Uu port's hop was given has the identities of its items in its tags
+abbrev pub BearIds : (ℕ → Option Item) → Box → Tx → Type 0
+BearIds items b tx = (k n : ℕ) (i : Item) (kept : Kept) → slice_get b.log k ≡ Some n → items n ≡ Some i → tx_kept_at tx k ≡ Some kept → kept.tag.ue ≡ id_of i.goal
+
+-- what a port's hop was given fits it so, where the port is direct or a Uu port
 abbrev pub FitsDirect : PortName → Way → Contents → (ℕ → Option Item) → (ℕ → Spot) → Box → Tx → Type 0
 FitsDirect (Direct remote drb) way t items spot b tx = DirectFits remote drb way t items spot b tx
 FitsDirect (Pc5 remote chan) way t items spot b tx = Unit {0}
-FitsDirect (Uu chan) way t items spot b tx = Unit {0}
+FitsDirect (Uu chan) way t items spot b tx = BearIds items b tx
 
 -- a side of a port at a node of this kind is open in this epoch as the paths say: a direct or a PC5 port in the epoch of the remote at the node, where the path
 -- is direct or over the relay; a Uu port in epoch 0
@@ -189,12 +206,26 @@ pub data PlanFits (path : Path) (p : Plan) : Type 0 where
       → PlanFits path p
   closed : is_open p ≡ false → path.plan ≡ None → path.epoch ≡ p.epoch → path.goal ≡ p.goal → PlanFits path p
 
--- open sides are open as the paths say; each node attaches as the path says, and no two identities to one remote; and plans are those of the paths
-pub record PathsFit (path : Remote → Path) (entity : Side → PortName → Option Entity) (attached : NodeName → List Attachment) (plan : Remote → Option Plan) : Type 0 where
+-- open sides are open as the paths say; each node attaches as the path says, and no two identities to one remote; plans are those of the paths; and the
+-- tables have each remote with an identity, and each remote of theirs has a plan
+pub record PathsFit (t : Contents) (path : Remote → Path) (entity : Side → PortName → Option Entity) (attached : NodeName → List Attachment)
+    (plan : Remote → Option Plan) : Type 0 where
   pub opens : (at : Side) (port : PortName) (e : Entity) → entity at port ≡ Some e → IsOpenBy path (kind_at at port) port e.epoch
   pub ids : (kind : NodeKind) (remote : Remote) → goal_of (id_in (attached (node_of kind remote)) remote) ≡ goal_at (path remote) kind
   pub agree : (name : NodeName) (remote : Remote) (id : LocalId) → IsAttached (attached name) remote id.0 → id_in (attached name) remote ≡ Some id
   pub plans : (remote : Remote) (p : Plan) → plan remote ≡ Some p → PlanFits (path remote) p
+  pub listed : (remote : Remote) (id : LocalId) → Reserves (path remote) id → has_remote t remote ≡ true
+  pub lasts : (remote : Remote) → has_remote t remote ≡ true → (p : Plan) × (plan remote ≡ Some p)
+
+-- each PDU on the air is of a port that was opened; a remote's ports were opened up to its epoch; the sides of the tables' Uu ports are open; each side has
+-- the size of its port; and the nodes of each remote of the tables are there
+pub record OpeningsFit (t : Contents) (path : Remote → Path) (ports : Ports) (epochs : Epochs) (air : List (Option Pdu)) (entity : Side → PortName → Option Entity)
+    (size : Side → PortName → Option SnSize) (there : NodeName → Bool) : Type 0 where
+  pub aired : (ticket : ℕ) (pdu : Pdu) → on_air air ticket ≡ Some pdu → (port : Port) × (ports pdu.port pdu.epoch ≡ Some port)
+  pub fresh : (remote : Remote) (at : Side) (name : PortName) → is_of remote name ≡ true → epochs at name ≤ epoch_at (path remote) (kind_at at name) + 1
+  pub uus : (at : Side) (chan : Chan) → has_uu t chan ≡ true → is_some (entity at (Uu chan)) ≡ true
+  pub sizes : (at : Side) (name : PortName) (s : SnSize) → size at name ≡ Some s → s ≡ port_size t name
+  pub nodes : (remote : Remote) → has_remote t remote ≡ true → (kind : NodeKind) → there (node_of kind remote) ≡ true
 
 -- a PDCP sender keeps the SDUs submitted that are not confirmed, each of which has 1 to 9,000 bytes
 pub record SenderFits (b : ItemSender) (s : Sender) : Type 0 where
@@ -257,8 +288,8 @@ pub record Ghost : Type 0 where
   pub spell : ℕ → List ℕ
 
 -- a ghost stands for a chain of this view: its chain of items can be reached; each item has its octets, which stand where the layout says; the open entities
--- are sides of ports that can be reached, whose SDUs are items, direct ports with their tags, and the air has what ports have made; slots, queues, paths and
--- ends are those of the items
+-- are sides of ports that can be reached, whose SDUs are items, direct and Uu ports with their tags, and the air has what ports have made; slots, queues, paths
+-- and ends are those of the items; and ports can be opened anew
 pub record Stands (g : Ghost) (v : View) : Type 0 where
   pub good : TablesGood v.tables
   pub reaches : Reaches (item_tables v.tables) (calm g.chain)
@@ -272,7 +303,8 @@ pub record Stands (g : Ghost) (v : View) : Type 0 where
       → FitsDirect name way v.tables g.chain.items g.chain.spot (g.layout.box (Link name way epoch)) (hop_of port way).tx
   pub unopened : (name : PortName) (epoch : ℕ) → g.ports name epoch ≡ None → (way : Way) → (g.layout.box (Link name way epoch)).log ≡ []
   pub places : PlacesFit (IsParcel v.tables g.chain.items g.chain.spot g.spell) g.layout.box v.slot v.queue
-  pub paths : PathsFit g.chain.path v.entity v.attached v.plan
+  pub paths : PathsFit v.tables g.chain.path v.entity v.attached v.plan
+  pub openings : OpeningsFit v.tables g.chain.path g.ports g.epochs v.air v.entity v.size v.there
   pub ends : EndsFit v.tables g.chain.path g.chain.sender g.chain.heard g.chain.wanted v.outgoing v.incoming
 
 -- the items go on by steps

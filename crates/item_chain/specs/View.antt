@@ -1,22 +1,24 @@
 -- What the chain of items needs to know of a chain.
-use Rattle.std.specs.Prelude.{◌&&◌, Bool, true, false, cond, List, Option}
+use Rattle.std.specs.Prelude.{◌&&◌, Bool, true, false, cond, List, Option, is_some, option_map}
 use Rattle.link_base.specs.declared.names.Key.{Key}
 use Rattle.link_base.specs.declared.names.PortName.{PortName}
 use Rattle.link_base.specs.declared.names.Remote.{Remote}
 use Rattle.link_base.specs.declared.names.Side.{Side}
 use Rattle.link_base.specs.declared.names.Side.TheVariants.{Low, High}
+use Rattle.link_base.specs.declared.names.SnSize.{SnSize}
 use Rattle.bearer_map.specs.declared.ids.Attachment.{Attachment}
 use Rattle.bearer_map.specs.Contents.{Contents}
 use Rattle.rlc_model.specs.declared.hop.Pdu.{Pdu}
 use Rattle.rlc_model.specs.Sides.{Entity}
 use Rattle.node_model.specs.declared.parcel.Parcel.{Parcel}
-use Rattle.node_model.specs.Names.{NodeName, AtRelay}
-use Rattle.node_model.specs.State.{Incoming, Outgoing, slot_at, queue_at, outgoing_at, incoming_at}
+use Rattle.node_model.specs.Names.{NodeName, AtRelay, owner}
+use Rattle.node_model.specs.State.{PortSide, Incoming, Outgoing, side_at, slot_at, queue_at, outgoing_at, incoming_at}
 use Rattle.chain_model.specs.declared.plan.Plan.{Plan}
+use Rattle.chain_model.specs.Places.{find_node}
 use Rattle.chain_model.specs.State.{Chain, node_at, plan_at, entity_on}
 
 -- the tables; the entity of each side of each port; what stands in the slots and queues of the relay; what each node attaches; the ends of keys at each
--- node; the last plan of each remote; and the air
+-- node; the last plan of each remote; the air; the size of the SNs of each side that a node has; and which nodes there are
 pub record View : Type 0 where
   pub tables : Contents
   pub entity : Side → PortName → Option Entity
@@ -27,6 +29,12 @@ pub record View : Type 0 where
   pub incoming : NodeName → Key → Option Incoming
   pub plan : Remote → Option Plan
   pub air : List (Option Pdu)
+  pub size : Side → PortName → Option SnSize
+  pub there : NodeName → Bool
+
+-- the size of a side's SNs
+abbrev pub side_size : PortSide → SnSize
+side_size s = s.size
 
 -- the view of a chain
 abbrev pub view : Chain → View
@@ -40,6 +48,8 @@ view c = record {
   incoming = λ name key. incoming_at (node_at c name) key;
   plan = λ remote. plan_at c remote;
   air = c.air;
+  size = λ at port. option_map side_size (side_at (node_at c (owner at port)) port);
+  there = λ name. is_some (find_node c name);
 }
 
 -- whether two sides are one

@@ -1,12 +1,12 @@
 -- What is kept as items go from station to station.
-use Rattle.std.specs.Prelude.{◌≡◌, ℕ, false, [], ◌∷◌, ◌++◌, length, Option, Some, List}
+use Rattle.std.specs.Prelude.{◌≡◌, ℕ, Bool, true, false, [], ◌∷◌, ◌++◌, length, Option, Some, List}
 use Rattle.bearer_map.specs.Contents.{Contents}
 use Rattle.rlc_model.specs.Heard.{Data}
 use Rattle.rlc_model.specs.declared.receiver.Heard.TheVariants.{Complete}
 use Rattle.rlc_model.specs.Rx.{Rx, Hears}
 use Rattle.rlc_law.specs.Hop.{Hop, Reaches, completed_after}
 use Rattle.item_law.specs.State.{Item, Spot, OnFirstHop, is_number, put, is_on_its_way}
-use Rattle.item_place.specs.Places.{Station, is_station, Box, at, leave, enter, Layout, moved, IsSpot, StandsFor}
+use Rattle.item_place.specs.Places.{Station, is_station, Box, at, leave, enter, emptied_at, Layout, moved, IsSpot, StandsFor}
 use Rattle.item_place.specs.HopFits.{HopFits}
 
 -- an item that goes from one station to another is at a spot there, and all others stand where they stood
@@ -27,6 +27,15 @@ abbrev pub ItemsLeave : Type 0
 ItemsLeave = (t : Contents) (l : Layout) (items : ℕ → Option Item) (spot : ℕ → Spot) → StandsFor t l items spot
     → (a : Station) (k n : ℕ) → at (l.box a) k ≡ Some n → (x : Spot) → is_on_its_way x ≡ false
     → StandsFor t (record l { box = put is_station l.box a (leave (l.box a) k) }) items (put is_number spot n x)
+
+-- all items that stand at some stations are lost, and stand nowhere; those at others stay
+abbrev pub ItemsLeaveStations : Type 0
+ItemsLeaveStations = (t : Contents) (l : Layout) (items : ℕ → Option Item) (spot : ℕ → Spot) → StandsFor t l items spot
+    → (test : Station → Bool) (now : ℕ → Spot)
+    → ((a : Station) (k n : ℕ) → test a ≡ true → at (l.box a) k ≡ Some n → is_on_its_way (now n) ≡ false)
+    → ((a : Station) (k n : ℕ) → test a ≡ false → at (l.box a) k ≡ Some n → now n ≡ spot n)
+    → ((n : ℕ) → is_on_its_way (now n) ≡ true → now n ≡ spot n)
+    → StandsFor t (record l { box = emptied_at test l.box }) items now
 
 -- a number that completes at the receiver of a hop is that of an item that stands there, and the SDU has its octets; and then it has left
 abbrev pub HopsComplete : Type 0

@@ -1,5 +1,5 @@
 -- Where the items of a chain stand: on the hops of ports, in the slots of ingress ports and in the queues of egress ports. Each of these is a box.
-use Rattle.std.specs.Prelude.{◌≡◌, ℕ, ◌<◌, ◌≤◌, ◌==◌, ◌&&◌, Bool, true, false, cond, List, [], ◌∷◌, ◌++◌, length, slice_get, Option, Some, None}
+use Rattle.std.specs.Prelude.{◌≡◌, ℕ, ◌<◌, ◌≤◌, ◌==◌, ◌&&◌, nat_lt, Bool, true, false, cond, List, [], ◌∷◌, ◌++◌, length, slice_get, Option, Some, None}
 use Rattle.link_base.specs.declared.names.Goal.{Goal}
 use Rattle.link_base.specs.declared.names.Goal.TheVariants.{Direct as ToDirect, Relay as ToRelay}
 use Rattle.link_base.specs.declared.names.PortName.{PortName}
@@ -43,6 +43,14 @@ leave b k = record b { left = put is_number b.left k true }
 -- the box once an item came to its end
 abbrev pub enter : Box → ℕ → Box
 enter b n = record b { log = b.log ++ n ∷ [] }
+
+-- the box once all that came there went on
+abbrev pub emptied : Box → Box
+emptied b = record b { left = λ k. nat_lt k (length b.log) }
+
+-- the boxes where those of some stations are emptied
+abbrev pub emptied_at : (Station → Bool) → (Station → Box) → Station → Box
+emptied_at test box a = cond (test a) (emptied (box a)) (box a)
 
 -- the items of a chain in the order in which they came, and the box of each station
 pub record Layout : Type 0 where

@@ -1,12 +1,13 @@
 // The laws of boxes.
-ghost use Rattle.item_place.specs.Laws.{ItemsMove, ItemsEnter, ItemsLeave, HopsComplete};
+ghost use Rattle.item_place.specs.Laws.{ItemsMove, ItemsEnter, ItemsLeave, ItemsLeaveStations, HopsComplete};
 
 /// A law: an item that goes on to another station stands there alone, a new one stands at the end of its first hop, and one that
-/// arrives or is lost stands nowhere; all others stay where they stand.
+/// arrives or is lost stands nowhere, nor do all those of stations that are purged; all others stay where they stand.
 pub fn items_go_from_station_to_station()
     ensures moves { ItemsMove }
     ensures enters { ItemsEnter }
     ensures leaves { ItemsLeave }
+    ensures purged { ItemsLeaveStations }
 {}
 
 /// A law: what completes at the receiver of a hop has the octets of the item at that position of the hop's box, which has left

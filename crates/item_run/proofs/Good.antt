@@ -72,6 +72,8 @@ module _ (t : Contents) (are : AreDeclared t) where
     drbs = its_drb;
     firsts = λ remote drb row found way. its_counts row (its_bearer remote drb row found).counts way;
     maps = λ row among. (member (IsMap t) t.maps row are.maps among).only;
+    uus = λ row among. (member (IsMap t) t.maps row are.maps among).channels.uu;
+    mapped = λ row among. (member (IsMap t) t.maps row are.maps among).drb.1;
   }
 
 -- before go nothing has happened to the chain that the tables open

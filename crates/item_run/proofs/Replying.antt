@@ -32,7 +32,7 @@ use Rattle.chain_model.specs.State.{Chain, entity_on, plan_at, sender_at}
 use Rattle.chain_model.specs.Steps.{Does}
 use Rattle.chain_model.specs.Telling.{TellsSubmit, TellsExpired, push_reply, pull_reply}
 use Rattle.item_chain.specs.Foundations.{PduLaws}
-use Rattle.item_chain.specs.Laws.{IsItemLine}
+use Rattle.item_chain.specs.Laws.{IsStandingLine}
 use Rattle.item_chain.specs.View.{view}
 use Rattle.item_chain.specs.Stands.{Ghost, Stands}
 use Rattle.item_run.specs.Replies.{never_comes}
@@ -110,7 +110,7 @@ module _ (old mid : Chain) where
     comes ticket (Some pdu) on own reply behind d =
         heard_sound pdu.port (way_from (hearer_of pdu.way)) d.answer own reply d.tells (hears_fine l g old st on_path ticket pdu on d.answer d.node d.hears)
 
-    pub does_fine : (line : Line) (own : List Event) (reply : Reply) → IsItemLine line → Does old line own reply mid → never_comes reply ≡ false
+    pub does_fine : (line : Line) (own : List Event) (reply : Reply) → IsStandingLine line → Does old line own reply mid → never_comes reply ≡ false
     does_fine (Submit key sdu) own reply is d = unless (submit_refusal old key)
         (fine_choice (not (has_bearer old.tables key.remote key.drb)) (Some NoBearer) None refl tt) own reply _ (submits (submit_fault (sender_at old key) sdu) key sdu own reply) d
     does_fine (Grant port way octets) own reply is d = unless (grant_refusal old port way) (grant_fine old port way) own reply (Granted old port way octets own reply mid)

@@ -18,7 +18,7 @@ use Rattle.book_law.specs.Past.{Goes, steps, drained, ended, Passes, IsDeclarati
 use Rattle.heard_law.proofs.Tickets.{is_burst, shows_heard, NoHeard, append_none, conf_none, rep_none, does_none}
 use Rattle.direct_run_law.specs.Direct.{switches, NoneSwitches}
 use Rattle.item_chain.specs.Foundations.{PduLaws}
-use Rattle.item_chain.specs.Laws.{IsItemLine}
+use Rattle.item_chain.specs.Laws.{IsStandingLine}
 use Rattle.item_chain.specs.Runs.{PastsStand, IsRunLine, AreRunLines}
 use Rattle.item_chain.specs.Stands.{TablesGood}
 use Rattle.item_run.specs.Foundations.{BookLaws}
@@ -29,7 +29,7 @@ use Rattle.item_run.proofs.Replying.{does_fine}
 use Rattle.item_run.proofs.Runs.{history, past, stands_behind}
 
 -- a line of a standing run that does something takes items by steps
-item_line : (line : Line) → IsRunLine line → switches line ≡ false → (old : Chain) (own : List Event) (reply : Reply) (mid : Chain) → Does old line own reply mid → IsItemLine line
+item_line : (line : Line) → IsRunLine line → switches line ≡ false → (old : Chain) (own : List Event) (reply : Reply) (mid : Chain) → Does old line own reply mid → IsStandingLine line
 item_line (Submit key sdu) run stays old own reply mid does = tt
 item_line (Deliver ticket) run stays old own reply mid does = tt
 item_line (Repeat ticket) run stays old own reply mid does = tt
@@ -45,7 +45,7 @@ item_line (PlanLine remote goal) run stays old own reply mid does = absurd (true
 item_line (Apply remote kind) run stays old own reply mid does = absurd (true≢false stays)
 item_line line run stays old own reply mid does = absurd does
 
-no_burst : (line : Line) → IsItemLine line → is_burst line ≡ false
+no_burst : (line : Line) → IsStandingLine line → is_burst line ≡ false
 no_burst Burst is = absurd is
 no_burst line is = refl
 

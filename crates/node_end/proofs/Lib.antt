@@ -1,7 +1,12 @@
-pub mod Fed
-pub mod Feeds
-pub mod Heard
-pub mod Names
-pub mod Opening
-pub mod Places
-pub mod Rooms
+mod Names
+mod Own
+mod Rooms
+mod Ends
+mod Over
+mod Fed
+mod Heard
+mod Feeds
+mod Places
+mod Passes
+mod Covering
+mod Opening

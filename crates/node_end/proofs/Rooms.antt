@@ -21,9 +21,9 @@ use Rattle.node_model.specs.Names.{is_port, is_key, is_way, replaced}
 use Rattle.node_model.specs.State.{PortSide, Outgoing, Node, entity_of, entity_at, side_at}
 use Rattle.node_model.specs.Feeding.{room_of, out_key}
 use Rattle.node_ports.specs.Calls.{GivesPort}
-use Rattle.node_end.specs.Direct.{side_name}
+use Rattle.node_end.specs.Ports.{side_name}
 use Rattle.node_end.specs.Feeding.{HasNumbers, HasNumbersLeft, HaveNumbersLeft}
-use Rattle.node_end.proofs.Names.{port_is, key_is}
+use Rattle.node_model.proofs.Names.{port_is, key_is}
 
 -- one more SDU at the end
 front_push : {A : Type 0} (xs : List (Option A)) (x : A) → prefix_len is_none (xs ++ Some x ∷ []) ≡ prefix_len is_none xs

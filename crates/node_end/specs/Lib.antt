@@ -1,5 +1,8 @@
-pub mod Direct
 pub mod Node
+pub mod Opening
+pub mod Ports
+pub mod Routing
 pub mod Hearing
 pub mod Feeding
 pub mod Fed
+pub mod End

@@ -1,3 +1,4 @@
+mod Identities
 pub mod Before
 pub mod Places
 pub mod Steps

@@ -2,11 +2,15 @@
 //! or the gNB. Each side that is open has an RLC entity in acknowledged mode (TS 38.322).
 #![tactic(auto)]
 
+mod discards;
 mod entity;
+mod ids;
 mod opening;
 mod order;
 mod ports;
 mod side;
 
+pub use discards::{route_discard, srap_discard};
+pub use ids::attached;
 pub use order::{PortRow, row_of};
 pub use ports::Ports;

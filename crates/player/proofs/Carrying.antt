@@ -1,38 +1,34 @@
 -- A player that carries out a line.
 use Rattle.std.proofs.Common.{◌≡◌, ℕ, true, false, List, [], ◌∷◌, ◌++◌, Option, Some, None, is_some, Ok, Err, refl, sym, ◌∙◌, ap, subst}
 use Rattle.std.proofs.lemmas.Bool.{false≢true}
-use Rattle.std.proofs.lemmas.List.Elements.{recursion_from_All}
 use Rattle.std.specs.Prelude.{Result}
 use Rattle.bearer_map.specs.Contents.{Contents}
 use Rattle.bearer_map.specs.declared.rows.TableFault.{TableFault}
 use Rattle.script_text.specs.declared.event.Event.{Event}
 use Rattle.script_text.specs.declared.line.Line.{Line}
-use Rattle.script_text.specs.declared.line.Line.TheVariants.{Path, Go, Submit}
+use Rattle.script_text.specs.declared.line.Line.TheVariants.{Go, Submit}
 use Rattle.script_text.specs.declared.reply.Reply.{Reply}
 use Rattle.script_text.specs.declared.reply.Reply.TheVariants.{Ok as OkReply}
 use Rattle.script_text.specs.declared.stage.Part.{Part}
 use Rattle.script_text.specs.declared.stage.Part.TheVariants.{Start, Tables, Running, Ended}
 use Rattle.script_text.specs.declared.stage.ScriptStage.{ScriptStage}
 use Rattle.script_text.specs.Grammar.{Parses}
-use Rattle.script_text.specs.History.{Entry, trace}
+use Rattle.script_text.specs.History.{trace}
 use Rattle.script_text.specs.Lines.{part_of}
 use Rattle.script_text.specs.Stages.{after, entered, is_past_go, part_after, tables_after}
 use Rattle.script_text.specs.Texts.{entry_text}
-use Rattle.chain_model.specs.Carried.{Carried as AreCarriedPdus}
 use Rattle.chain_model.specs.Runs.{Turn, entries, contents, Turns, LeadsTo}
 use Rattle.chain_model.specs.State.{Chain, opened}
-use Rattle.node_end.specs.Direct.{AreDirect, BeginsDirect}
-use Rattle.chain_core.specs.Chain.{is_direct_line}
-use Rattle.call_law.specs.Lines.{keeps_direct, EachKeepsDirect}
+use Rattle.chain_core.specs.Chain.{is_chain_line}
+use Rattle.chain_core.specs.Opening.{CanOpen}
 use Rattle.player.specs.declared.player_state.Player.{Player}
 use Rattle.player.specs.declared.player_state.Progress.TheVariants.{Carried}
 use Rattle.player.specs.Carried.{is_carried}
 use Rattle.player.specs.Ended.{is_ended}
 use Rattle.player.proofs.Complete.{never_ended}
-use Rattle.player.proofs.RunLines.{each_line}
-use Rattle.player.specs.Carrying.{CanCarry, CanOpen, is_end}
-use Rattle.player.specs.Foundations.{LineLaws, RunLaws}
-use Rattle.player.specs.Plays.{chain_or, turn_of, AreCarried, Plays, ReadsText}
+use Rattle.player.specs.Carrying.{CanCarry, is_end}
+use Rattle.player.specs.Foundations.{LineLaws}
+use Rattle.player.specs.Plays.{chain_or, turn_of, Plays, ReadsText}
 
 -- no line has its place behind the end line
 no_line_ended : (line : Line) → part_of line ≡ Ended → ⊥
@@ -92,31 +88,18 @@ reads_on p q mid text line events reply h out out' parsed carried same turns run
   added ∙ ap (λ (l : List ℕ). l ++ entry_text line events reply) written,
 )
 
--- a line that is carried out keeps to direct paths
-direct_line : (line : Line) → is_carried line ≡ true → keeps_direct line ≡ true
-direct_line (Path remote goal) carried = carried
-direct_line line carried = cc
-
-keeps_to_direct : (h : List Turn) (stage : ScriptStage) (c : Chain) → LeadsTo h stage c → AreCarried h → EachKeepsDirect (entries h)
-keeps_to_direct = each_line (λ line. keeps_direct line ≡ true) direct_line
-
--- a line behind go that is carried out is one of direct ports, or the end
-direct_or_end : (line : Line) → is_carried line ≡ true → part_of line ≡ Running → is_end line ≡ false → is_direct_line line ≡ true
-direct_or_end (Submit key sdu) carried at no_end = refl
-direct_or_end line carried at no_end = cc
+-- a line behind go that is carried out is of a form that a chain carries out, or the end
+chain_line : (line : Line) → is_carried line ≡ true → part_of line ≡ Running → is_end line ≡ false → is_chain_line line ≡ true
+chain_line (Submit key sdu) carried at no_end = refl
+chain_line line carried at no_end = cc
 
 -- a line that is read and carried out can be carried out
 module _ (laws : LineLaws) (p : Player) (mid : ScriptStage) (text : List ℕ) (line : Line) (h : List Turn) (parsed : Parses p.stage text (Ok (Some line)) mid)
     (carried : is_carried line ≡ true) (plays : Plays p h) where
   opens : line ≡ Go → CanOpen (contents mid)
   opens is =
-      let t : Turn = turn_of Go [] OkReply in
-      let leads : LeadsTo (t ∷ h) mid (opened (contents mid)) =
-      (p.stage, chain_or p.stage p.chain, plays.leads, record { part = ap part_of (sym is) ∙ parsed.2.stands; enters = ap (after p.stage) (sym is) ∙ parsed.3 }, (refl, refl, refl, refl)) in
-      record {
-        direct = laws.direct (t ∷ h) mid (opened (contents mid)) leads (keeps_to_direct (t ∷ h) mid (opened (contents mid)) leads (refl, plays.carried));
-        counts = laws.counts (t ∷ h) mid (opened (contents mid)) leads;
-      }
+      laws.opens (turn_of Go [] OkReply ∷ h) mid (opened (contents mid))
+      (p.stage, chain_or p.stage p.chain, plays.leads, record { part = ap part_of (sym is) ∙ parsed.2.stands; enters = ap (after p.stage) (sym is) ∙ parsed.3 }, (refl, refl, refl, refl))
 
   pub can_carry : CanCarry mid p.chain line
   can_carry = by p.chain refl
@@ -129,16 +112,5 @@ module _ (laws : LineLaws) (p : Player) (mid : ScriptStage) (text : List ℕ) (l
       by (Some c) is =
           let at = running line p.stage.part parsed.2.stands (sym (ap (λ (o : Option Chain). is_some o) is) ∙ plays.runs) in
           let leads : LeadsTo h p.stage c = subst (λ (o : Option Chain). LeadsTo h p.stage (chain_or p.stage o)) is plays.leads in
-          (at, record { direct = direct_or_end line carried at; step = laws.steps h p.stage c leads (keeps_to_direct h p.stage c leads plays.carried) })
+          (at, record { form = chain_line line carried at; step = laws.steps h p.stage c leads })
       by None is = tables line refl (not_running line p.stage.part parsed.2.stands (sym (ap (λ (o : Option Chain). is_some o) is) ∙ plays.runs))
-
--- the tables of a run are direct ones
-tables_direct : RunLaws → (h : List Turn) (stage : ScriptStage) (c : Chain) → LeadsTo h stage c → AreCarried h → AreDirect c.tables
-tables_direct laws h stage c leads carried = subst AreDirect (sym (laws.declared h stage c leads)) (laws.direct h stage c leads (keeps_to_direct h stage c leads carried))
-
--- its data PDUs carry what its ends gave
-pub carries_pdus : RunLaws → (h : List Turn) (stage : ScriptStage) (c : Chain) → LeadsTo h stage c → AreCarried h → AreCarriedPdus c.tables (entries h)
-carries_pdus laws h stage c leads carried =
-    let direct = tables_direct laws h stage c leads carried in
-    laws.pdus h stage c leads (recursion_from_All BeginsDirect c.tables.remotes direct.paths) (record { no_pc5 = direct.no_pc5; no_uu = direct.no_uu })
-    (laws.still (entries h) (keeps_to_direct h stage c leads carried))

@@ -24,7 +24,6 @@ use Rattle.player.specs.Plays.{IsLater, Plays, ReadsText, chain_or}
 use Rattle.player.specs.Turns.{TurnsAt, StopsAtEnd, Finishes}
 use Rattle.player.specs.Runs.{IsRun, Stops, IsBadNext, last_text, own_entry}
 use Rattle.player.proofs.Totals.{totals}
-use Rattle.player.proofs.Carrying.{carries_pdus}
 use Rattle.player.proofs.RunLines.{keeps_books, has_sound_replies, hands_up_all}
 
 -- the chain of a player
@@ -136,7 +135,7 @@ module _ (laws : RunLaws) where
         carried = g.plays.carried;
         books = keeps_books laws g.history p.stage (chain_at p) g.plays.leads g.plays.carried;
         hand_ups = laws.exact g.history p.stage (chain_at p) g.plays.leads;
-        pdus = carries_pdus laws g.history p.stage (chain_at p) g.plays.leads g.plays.carried;
+        pdus = laws.pdus g.history p.stage (chain_at p) g.plays.leads;
         reports = laws.reports g.history p.stage (chain_at p) g.plays.leads;
         replies = has_sound_replies laws g.history p.stage (chain_at p) g.plays.leads g.plays.carried;
         quiet = hands_up_all laws g.history p.stage (chain_at p) g.plays.leads g.plays.carried;

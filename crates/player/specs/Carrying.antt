@@ -1,31 +1,24 @@
 -- What a chain needs so that it can carry out a line.
 use Rattle.std.specs.Prelude.{◌≡◌, Bool, true, false, Option, Some, None}
-use Rattle.bearer_map.specs.Contents.{Contents}
 use Rattle.script_text.specs.declared.line.Line.{Line}
 use Rattle.script_text.specs.declared.line.Line.TheVariants.{Go, End}
 use Rattle.script_text.specs.declared.stage.Part.TheVariants.{Running}
 use Rattle.script_text.specs.declared.stage.ScriptStage.{ScriptStage}
 use Rattle.script_text.specs.Lines.{part_of}
-use Rattle.node_bearers.specs.Calls.{HaveCounts}
-use Rattle.node_end.specs.Direct.{AreDirect}
 use Rattle.chain_model.specs.Runs.{contents}
 use Rattle.chain_model.specs.State.{Chain}
-use Rattle.chain_core.specs.Chain.{is_direct_line}
+use Rattle.chain_core.specs.Chain.{is_chain_line}
+use Rattle.chain_core.specs.Opening.{CanOpen}
 use Rattle.call_law.specs.Lines.{CanStep}
-
--- tables can open a chain: all paths are direct, and the first COUNTs are COUNTs
-pub record CanOpen (t : Contents) : Type 0 where
-  pub direct : AreDirect t
-  pub counts : HaveCounts t
 
 -- the line is the end
 abbrev pub is_end : Line → Bool
 is_end End = true
 is_end line = false
 
--- a chain can carry out a line behind go: it can carry out one of direct ports, and the end asks for nothing
+-- a chain can carry out a line behind go: it is of a form that a chain carries out, unless it is the end, which asks for nothing
 pub record CanPlay (c : Chain) (line : Line) : Type 0 where
-  pub direct : is_end line ≡ false → is_direct_line line ≡ true
+  pub form : is_end line ≡ false → is_chain_line line ≡ true
   pub step : CanStep c
 
 -- a line can be carried out behind which the script stands at a stage: by the chain that runs; or it is one of the tables, which go needs to open a chain

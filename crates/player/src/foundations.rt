@@ -2,8 +2,8 @@
 ghost use Rattle.player.specs.Foundations.{LineLaws, RunLaws};
 
 use book_law::{confirmed_numbers_are_told, hand_ups_are_told, senders_keep_the_book};
-use call_law::{chains_can_be_opened, runs_have_declared_tables, steps_can_be_carried_out};
-use carried_law::direct_runs_are_carried;
+use call_law::{chains_can_be_opened, steps_can_be_carried_out};
+use carried_law::runs_are_carried;
 use heard_law::reports_are_true;
 use item_run::{quiet_runs_hand_up_all, replies_that_never_come, runs_keep_the_book};
 use orderly_law::hand_ups_are_exact;
@@ -29,8 +29,6 @@ pub(crate) fn laws_of_runs()
     replies_that_never_come();
     quiet_runs_hand_up_all();
     hand_ups_are_exact();
-    direct_runs_are_carried();
+    runs_are_carried();
     reports_are_true();
-    chains_can_be_opened();
-    runs_have_declared_tables();
 }

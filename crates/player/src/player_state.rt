@@ -5,7 +5,8 @@ ghost use Rattle.script_text.specs.Stages.{is_past_go, part_after};
 ghost use Rattle.chain_model.specs.Runs.{Behaves, Turns, contents};
 ghost use Rattle.chain_model.specs.State.{opened};
 ghost use Rattle.player.specs.Plays.{chain_or, turn_of};
-ghost use Rattle.player.specs.Carrying.{CanCarry, CanOpen, CanPlay, is_end};
+ghost use Rattle.chain_core.specs.Opening.{CanOpen};
+ghost use Rattle.player.specs.Carrying.{CanCarry, CanPlay, is_end};
 
 use crate::carried::is_carried;
 use crate::foundations::laws_of_lines;

@@ -7,6 +7,9 @@ mod limits;
 mod long_hops;
 mod orders;
 mod refusals;
+mod relay;
+mod relay_remotes;
+mod relay_windows;
 mod segments;
 mod settings;
 mod windows;
@@ -113,6 +116,18 @@ impl Session {
         let (script, trace) = (self.script.as_str(), self.trace.as_str());
         expect_in_pieces(rt, self.alloc, script, 65_536, 0, trace)
     }
+}
+
+/// Rows in whose text letters stand for numbers.
+fn rows_of(alloc: Global, rows: &str, numbers: &[(char, u64)]) -> Result<String, AllocError> {
+    let mut text = String::new(alloc);
+    for letter in rows.chars() {
+        match numbers.iter().find(|named| named.0 == letter) {
+            Some((_, number)) => write!(text, "{number}")?,
+            None => text.push(letter)?,
+        }
+    }
+    Ok(text)
 }
 
 /// Plays a session in pieces of three sizes, each time with this status.

@@ -1,12 +1,10 @@
-// The relay's ports and attachments before anything happened.
+// The relay's ports before anything happened.
 ghost use Rattle.std.specs.Prelude.{◌≡◌, ◌++◌, map, IfOk, OnOk};
-ghost use Rattle.bearer_map.specs.Ids.{AreIds};
-ghost use Rattle.node_model.specs.Opening.{all_attached};
 ghost use Rattle.relay_core.specs.Opening.{AreInOrder, new_ports, new_pc5s, new_pc5, new_uu, new_ingress, new_egress};
 
 use crate::ports::{EgressPort, IngressPort};
 use crate::queue::ParcelQueue;
-use bearer_map::{Ids, Pc5Row, RemoteRow, Settings, Tables, UuRow};
+use bearer_map::{Pc5Row, RemoteRow, Settings, Tables, UuRow};
 use link_base::{Goal, Memory, PortName, SnSize};
 use rlc_am_rx::AmRx;
 use rlc_am_tx::AmTx;
@@ -136,18 +134,4 @@ fn new_egress(alloc: Global, settings: Settings, port: NewPort) -> Result<Egress
         tx,
         queue: ParcelQueue::new(alloc, settings.queue)?,
     })
-}
-
-/// The local identities of the remotes that begin on the relay.
-pub(crate) fn attached(alloc: Global, tables: &Tables) -> Result<Ids, Memory>
-    requires { AreIds (all_attached tables.now) }
-    ensures { IfOk result (λ ids. ids ≡ all_attached tables.now) }
-{
-    let mut ids = Ids::new(alloc)?;
-    for row in tables.remotes() {
-        if let Goal::Relay(id) = row.goal {
-            ids.attach(row.remote, id)?;
-        }
-    }
-    Ok(ids)
 }

@@ -16,13 +16,13 @@ ghost use Rattle.node_ports.specs.Table.{tx_of, rx_of};
 ghost use Rattle.relay_core.specs.Opening.{HaveChannels};
 ghost use Rattle.relay_core.specs.Relay.{IsRelayNode, queue_capacity, is_empty_node, has_empty_slot, has_empty_queue};
 
-use crate::opening::{attached, new_egresses, new_ingresses, new_ports};
+use crate::opening::{new_egresses, new_ingresses, new_ports};
 use crate::ports::{EgressPort, IngressPort, expire, grant};
 use crate::pulling::pull;
 use bearer_map::{Ids, Tables};
 use link_base::{Expired, LocalId, Memory, PortName, Remote, Timer};
 use node_model::{PortGrant, PullReply, PushReply};
-use node_ports::row_of;
+use node_ports::{attached, row_of};
 use rlc_am_rx::AmRx;
 use rlc_am_tx::AmTx;
 use std::alloc::Global;

@@ -1,13 +1,14 @@
 // Where the relay sends an SDU on.
 ghost use Rattle.std.specs.Prelude.{◌≡◌};
 ghost use Rattle.node_model.specs.State.{Node};
-ghost use Rattle.node_model.specs.Routing.{Leads, srap_discard, route_discard};
+ghost use Rattle.node_model.specs.Routing.{Leads};
 ghost use Rattle.relay_core.specs.Ports.{IsOfRelay, relay_side};
 ghost use Rattle.relay_core.specs.Routing.{leads_to, GoesOnward};
 
 use bearer_map::{Ids, Route, RouteFault, Tables, down_route, up_route};
 use link_base::{Discard, PortName};
-use srap_header::{SrapFault, read};
+use node_ports::{route_discard, srap_discard};
+use srap_header::read;
 
 /// Where an SDU goes on that came over a port of the relay, by its SRAP header, or why it goes nowhere (TS 38.351 clauses
 /// 5.2 and 5.3). It takes no memory.
@@ -46,27 +47,5 @@ fn onward(
         PortName::Direct(..) => unreachable!(),
         PortName::Pc5(remote, chan) => up_route(tables, ids, (remote, chan), ue, bearer),
         PortName::Uu(chan) => down_route(tables, ids, chan, ue, bearer),
-    }
-}
-
-// Why an SDU that is no SRAP PDU is discarded.
-fn srap_discard(fault: SrapFault) -> Discard
-    ensures { result ≡ srap_discard fault }
-{
-    match fault {
-        SrapFault::Short => Discard::Short,
-        SrapFault::Control => Discard::Control,
-        SrapFault::NoBody => Discard::NoBody,
-    }
-}
-
-// Why an SDU without a route is discarded.
-fn route_discard(fault: RouteFault) -> Discard
-    ensures { result ≡ route_discard fault }
-{
-    match fault {
-        RouteFault::UnknownUe => Discard::UnknownUe,
-        RouteFault::ForeignUe => Discard::ForeignUe,
-        RouteFault::UnknownBearer => Discard::UnknownBearer,
     }
 }

@@ -1,4 +1,4 @@
-//! A remote: the end of its own bearers (TS 38.300 clause 16.12.2.1). Its path is a direct one.
+//! A remote: the end of its own bearers (TS 38.300 clause 16.12.2.1).
 #![tactic(auto)]
 
 mod remote_end;

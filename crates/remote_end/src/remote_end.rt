@@ -1,12 +1,11 @@
 // A remote's end of its bearers.
 ghost use Rattle.std.specs.Prelude.{◌≡◌, Some, true, All, find, IfOk, IfErr, OnErr, IsSome, option_map};
 ghost use Rattle.std.specs.Option.{option_copied};
-ghost use Rattle.bearer_map.specs.Contents.{Contents};
 ghost use Rattle.rlc_model.specs.Sides.{Entity};
 ghost use Rattle.rlc_hop.specs.Side.{IsToSend};
 ghost use Rattle.pdcp_model.specs.Sender.{confirmed, submitted, has_next};
 ghost use Rattle.pdcp_tx.specs.Calls.{Refuses};
-ghost use Rattle.node_model.specs.State.{entity_at, outgoing_at, outgoing, incoming, set_incoming};
+ghost use Rattle.node_model.specs.State.{entity_at, id_at, outgoing_at, outgoing, incoming, set_incoming};
 ghost use Rattle.bearer_map.specs.declared.rows.RemoteRow.{RemoteRow};
 ghost use Rattle.node_model.specs.Names.{is_remote};
 ghost use Rattle.node_model.specs.Opening.{new_remote};
@@ -16,12 +15,13 @@ ghost use Rattle.node_model.specs.Feeding.{Feeds, wants_report};
 ghost use Rattle.node_ports.specs.Sides.{IsSmall, IsThere};
 ghost use Rattle.node_ports.specs.Table.{tx_of, rx_of};
 ghost use Rattle.node_bearers.specs.Calls.{HaveCounts, Submits};
-ghost use Rattle.node_end.specs.Direct.{AreDirect, side_of};
+ghost use Rattle.node_end.specs.Node.{side_of};
+ghost use Rattle.node_end.specs.Opening.{HaveRoutes};
 ghost use Rattle.node_end.specs.Hearing.{StopsHearing};
 ghost use Rattle.node_end.specs.Feeding.{HasNumbers, StopsFeeding};
 
 use bearer_map::{RemoteRow, Tables};
-use link_base::{Drb, Expired, Key, Memory, PortName, Remote, Timer, Way};
+use link_base::{Drb, Expired, Key, LocalId, Memory, PortName, Remote, Timer, Way};
 use node_end::{End, KeyList, NodeHeard, PortGrant};
 use pdcp_tx::SubmitFault;
 use rlc_am_rx::AmRx;
@@ -30,8 +30,8 @@ use rlc_hop::Pdu;
 use std::alloc::Global;
 use std::marker::Model;
 
-/// A remote's end of its bearers, with the direct path alone. Contracts see it as the remote and a node. Its calls are those of
-/// `End`, by the bearers of the remote.
+/// A remote's end of its bearers. Contracts see it as the remote, its tables and a node. Its calls are those of `End`, by the
+/// bearers of the remote.
 #[derive(Drop)]
 pub struct RemoteEnd {
     remote: Remote,
@@ -43,19 +43,20 @@ impl Model for RemoteEnd {
 
     ghost Value = { RemoteNode };
 
-    ghost view = { λ e. record { remote = e.remote; node = e.end } };
+    ghost view = { λ e. record { remote = e.remote; tables = e.end.tables; node = e.end.node } };
 }
 
 impl RemoteEnd {
-    ghost use Rattle.remote_end.specs.RemoteNode.{sent, received, row_of};
+    ghost use Rattle.remote_end.specs.RemoteNode.{IsSameRemote, sent, received, row_of};
 
-    /// A remote of the tables at which nothing has happened. It needs tables without channels of the relay, in which each remote
-    /// begins on its direct path.
+    /// A remote of the tables at which nothing has happened. Each bearer that is mapped to channels is to be declared, with an
+    /// identity from 1 to 32.
     pub fn new(alloc: Global, tables: &Tables, remote: Remote) -> Result<Self, Memory>
-        requires tables { AreDirect tables.now }
         requires counts { HaveCounts tables.now }
+        requires routes { HaveRoutes tables.now }
         requires remote { IsSome (row_of tables.now.remotes remote) }
         ensures remote { IfOk result (λ end. end.remote ≡ remote) }
+        ensures tables { IfOk result (λ end. end.tables ≡ tables.now) }
         ensures node { (row : RemoteRow) → row_of tables.now.remotes remote ≡ Some row
             → IfOk result (λ end. end.node ≡ new_remote tables.now row) }
     {
@@ -96,8 +97,8 @@ impl RemoteEnd {
         requires { IsSome (outgoing_at self.old.node (sent self.old drb)) }
         ensures ok { IfOk result
             (λ count. Submits self.old.node (sent self.old drb) sdu.now count self.new.node) }
-        ensures remote { self.new.remote ≡ self.old.remote }
-        ensures err { OnErr result (self.new.node ≡ self.old.node) }
+        ensures same { IsSameRemote self.old self.new }
+        ensures err { OnErr result (self.new ≡ self.old) }
         ensures fault { IfErr result
             (Refuses (outgoing self.old.node (sent self.old drb)).sender sdu.now) }
     {
@@ -113,11 +114,11 @@ impl RemoteEnd {
     pub fn hear(&mut self, pdu: &Pdu) -> Result<NodeHeard, Memory>
         requires { (entity : Entity) → entity_at self.old.node pdu.now.port ≡ Some entity
             → IsSmall entity }
-        ensures ok { (t : Contents) → IfOk result
-            (λ answer. HearsPdu t self.old.node (side_of self.old.node.name) pdu.now answer
-            self.new.node) }
-        ensures remote { self.new.remote ≡ self.old.remote }
-        ensures err { OnErr result (StopsHearing self.old.node pdu.now self.new.node) }
+        ensures ok { IfOk result (λ answer. HearsPdu self.old.tables self.old.node
+            (side_of self.old.node.name) pdu.now answer self.new.node) }
+        ensures same { IsSameRemote self.old self.new }
+        ensures err { OnErr result (StopsHearing self.old.tables self.old.node
+            (side_of self.old.node.name) pdu.now self.new.node) }
     {
         let answer = self.end.hear(pdu)?;
         Ok(answer)
@@ -129,11 +130,10 @@ impl RemoteEnd {
     /// An `Err` is want of memory, and comes only where there is a PDU to give. What was given before is given then.
     pub fn feed(&mut self) -> Result<KeyList, Memory>
         requires { All HasNumbers self.old.node.ports }
-        ensures ok { (t : Contents) → IfOk result
-            (λ given. Feeds t self.old.node given self.new.node) }
-        ensures remote { self.new.remote ≡ self.old.remote }
-        ensures err { (t : Contents) → OnErr result
-            (StopsFeeding t self.old.node self.new.node) }
+        ensures ok { IfOk result
+            (λ given. Feeds self.old.tables self.old.node given self.new.node) }
+        ensures same { IsSameRemote self.old self.new }
+        ensures err { OnErr result (StopsFeeding self.old.tables self.old.node self.new.node) }
     {
         let given = self.end.feed()?;
         Ok(given)
@@ -147,8 +147,8 @@ impl RemoteEnd {
     pub fn grant(&mut self, port: PortName, n: u32) -> Result<PortGrant, Memory>
         ensures ok { IfOk result
             (λ answer. GrantsPort self.old.node port n answer self.new.node) }
-        ensures remote { self.new.remote ≡ self.old.remote }
-        ensures err { OnErr result (self.new.node ≡ self.old.node) }
+        ensures same { IsSameRemote self.old self.new }
+        ensures err { OnErr result (self.new ≡ self.old) }
         ensures memory { OnErr result
             (IsThere (λ e. IsToSend e.tx e.rx n) (entity_at self.old.node port)) }
     {
@@ -159,7 +159,7 @@ impl RemoteEnd {
     /// A timer of a port runs out (TS 38.322 clause 7.3). None comes exactly where the port isn't open here.
     pub fn expire(&mut self, port: PortName, timer: Timer) -> Option<Expired>
         ensures step { ExpiresPort self.old.node port timer result self.new.node }
-        ensures remote { self.new.remote ≡ self.old.remote }
+        ensures same { IsSameRemote self.old self.new }
     {
         self.end.expire(port, timer)
     }
@@ -168,7 +168,7 @@ impl RemoteEnd {
     pub fn want_report(&mut self, drb: Drb)
         ensures step { self.new.node ≡ set_incoming self.old.node
             (record (incoming self.old.node (received self.old drb)) { wanted = true }) }
-        ensures remote { self.new.remote ≡ self.old.remote }
+        ensures same { IsSameRemote self.old self.new }
     {
         let key = self.received(drb);
         self.end.want_report(key);
@@ -211,10 +211,17 @@ impl RemoteEnd {
 
     /// Whether a status report about what is received of a bearer is to be given.
     pub fn wants_report(&self, drb: Drb) -> bool
-        ensures { (t : Contents) → result ≡ wants_report t self.now.node
+        ensures { result ≡ wants_report self.now.tables self.now.node
             (incoming self.now.node (received self.now drb)) }
     {
         self.end.wants_report(self.received(drb))
+    }
+
+    /// The local identity of the remote, where it is on the relay path (TS 38.351 clause 6.3.2).
+    pub fn own_id(&self) -> Option<LocalId>
+        ensures { result ≡ id_at self.now.node self.now.remote }
+    {
+        self.end.id_of(self.remote)
     }
 
     /// The transmitter of a port, or None exactly where the port isn't open here.

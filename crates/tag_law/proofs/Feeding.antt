@@ -21,7 +21,7 @@ use Rattle.node_model.specs.State.{Node, Outgoing, id_at, incoming, outgoing, se
 use Rattle.node_model.specs.Tables.{map_row, relay_port}
 use Rattle.chain_model.proofs.Lookups.{outgoing_key}
 use Rattle.pdcp_model.specs.Sender.{gave_next}
-use Rattle.direct_run_law.proofs.Ends.{same_out}
+use Rattle.chain_law.proofs.Leaving.{same_out}
 use Rattle.tag_law.proofs.Nodes.{NodeOwn, own_alike, own_same, given_own}
 
 -- the port of a key's first hop is the bearer's direct port, or none of direct ports

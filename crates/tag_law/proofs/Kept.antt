@@ -35,9 +35,7 @@ use Rattle.node_model.proofs.Names.{cases_key, cases_port}
 use Rattle.chain_model.proofs.Lookups.{cases_found, outgoing_key}
 use Rattle.chain_law.proofs.Members.{IsIn}
 use Rattle.chain_law.proofs.Nodes.{side_name, side_set}
-use Rattle.direct_run_law.proofs.Beside.{Stands, follows_stand}
-use Rattle.direct_run_law.proofs.Ends.{entity_set, entity_other}
-use Rattle.direct_run_law.proofs.Feeding.{out_kept, out_set}
+use Rattle.chain_law.proofs.Leaving.{Stands, entity_other, entity_set, follows_stand, out_kept, out_set}
 use Rattle.heard_law.specs.Telling.{of_remote}
 use Rattle.book_law.proofs.Senders.{confirms_forgets}
 use Rattle.tag_law.specs.Laws.{KeepsCount}

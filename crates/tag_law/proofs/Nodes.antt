@@ -34,8 +34,7 @@ use Rattle.node_model.specs.State.{PortSide, Node, entity_of, side_at, entity_at
 use Rattle.node_model.proofs.Names.{cases_port}
 use Rattle.chain_law.specs.Calls.{KeepsTags, HearingKeeps, GrantingKeeps, ExpiryKeeps, HearLeavesKept}
 use Rattle.chain_law.proofs.Nodes.{side_set}
-use Rattle.direct_run_law.proofs.Ends.{NodeSame, entity_set, entity_other, same_entity, same_itself, same_then}
-use Rattle.direct_run_law.proofs.Beside.{follows_stand}
+use Rattle.chain_law.proofs.Leaving.{NodeSame, entity_other, entity_set, follows_stand, same_entity, same_itself, same_then}
 
 -- what chain_law proves of the calls of an entity
 pub record CallLaws : Type 0 where

@@ -22,14 +22,14 @@ use Rattle.node_model.proofs.Finding.{find_map}
 use Rattle.node_model.proofs.Names.{port_refl, remote_apart, remote_is, remote_refl}
 use Rattle.chain_law.proofs.Members.{IsIn, in_made, none_found}
 use Rattle.chain_law.proofs.Nodes.{port_of, side_name}
-use Rattle.direct_run_law.proofs.Ends.{NodeSame, same_entity, same_out}
+use Rattle.chain_law.proofs.Leaving.{NodeSame, same_entity, same_out}
 use Rattle.direct_run_law.proofs.Feeding.{feeds_rests}
 use Rattle.heard_law.proofs.Attached.{of_switched}
 use Rattle.heard_law.proofs.Standing.{Standing, Stays, ends_stay, epoch_in, epoch_of, expires_stays, feeds_stays, grants_stays, hears_stays}
 use Rattle.heard_law.specs.Telling.{of_remote}
 use Rattle.tag_law.proofs.Lines.{NodeSteps}
 use Rattle.tag_law.proofs.Nodes.{heard_same}
-use Rattle.tag_law.proofs.TheLaw.{outs_after}
+use Rattle.carried_law.proofs.Own.{outs_after}
 
 -- the key is one that the node sends
 abbrev pub IsSent : Node → Key → Type 0

@@ -32,7 +32,8 @@ use Rattle.node_model.proofs.Finding.{each_append, each_made, each_flat, each_fo
 use Rattle.node_model.proofs.Names.{remote_is, node_is}
 use Rattle.chain_model.specs.State.{opened}
 use Rattle.carried_law.proofs.Switching.{applied_side}
-use Rattle.direct_run_law.proofs.Ends.{same_out}
+use Rattle.carried_law.proofs.Own.{outs_after, outs_from}
+use Rattle.chain_law.proofs.Leaving.{same_out}
 use Rattle.tag_law.specs.Laws.{DirectPortsKeepTheirTags}
 use Rattle.tag_law.proofs.Nodes.{CallLaws, IsOwn, NodeOwn, KeepsOwn, own_alike, granted_own, expired_own, heard_own}
 use Rattle.tag_law.proofs.Feeding.{feeds_own}
@@ -58,11 +59,6 @@ fresh_tags x n all remote drb e is m k here = by (side_at n (Direct remote drb))
 module _ (t : Contents) where
   abbrev IsEndOwn : Node → Type 0
   IsEndOwn n = (n.name ≡ AtRelay → ⊥) → NodeOwn n.name n
-
-  outs_from : (P : Key → Type 0) (way : Way) (rows : List BearerRow) → AllByRecursion (λ (row : BearerRow). P (key_of row.remote row.drb way)) rows
-      → AllByRecursion P (map out_key (map (new_outgoing way) rows))
-  outs_from P way [] all = tt
-  outs_from P way (row ∷ rows) all = (all.0, outs_from P way rows all.1)
 
   of_remote : (remote : Remote) (rows : List BearerRow) → AllByRecursion (λ (row : BearerRow). source (key_of row.remote row.drb Ul) ≡ AtRemote remote)
       (filter (λ (row : BearerRow). is_remote remote row.remote) rows)
@@ -121,19 +117,10 @@ module _ (t : Contents) where
           subst (λ (y : NodeName). NodeOwn y n) name
           (each_found IsEndOwn (λ (n : Node). is_node x n.name) (opened t).nodes n each_own is (λ at. end (sym name ∙ at)))
 
--- a node that applies a plan has the same keys, and opens sides that keep nothing
-pub outs_after : (remote : Remote) (os : List Outgoing) → map out_key (map (outgoing_after remote) os) ≡ map out_key os
-outs_after remote [] = refl
-outs_after remote (o ∷ os) = ap (λ (k : Key). k ∷ map out_key (map (outgoing_after remote) os)) (by (is_remote remote o.key.remote))
-    ∙ ap (λ (ks : List Key). o.key ∷ ks) (outs_after remote os)
-  where
-    by : (b : Bool) → (cond b (record o { sender = begins_wait o.sender }) o).key ≡ o.key
-    by true = refl
-    by false = refl
-
 none_kept : (x : NodeName) (remote : Remote) (drb : Drb) (s : Settings) (size : SnSize) (epoch : ℕ) (e : Entity) → e ≡ new_entity s size epoch → KeepsOwn x remote drb e.tx
 none_kept x remote drb s size epoch e is n k here = absurd (none-some k (sym (ap (λ (y : Entity). kept_at y.tx n) is) ∙ here))
 
+-- a node that applies a plan has the same keys, and opens sides that keep nothing
 after_own : (s : Settings) (remote : Remote) (goal : Goal) (epoch : ℕ) (y : NodeName) (n : Node) → NodeOwn y n → NodeOwn y (node_after s remote goal epoch n)
 after_own s remote goal epoch y n had = record {
   outs = subst (AllByRecursion (λ (k : Key). source k ≡ y)) (sym (outs_after remote n.outgoing)) had.outs;

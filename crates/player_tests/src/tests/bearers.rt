@@ -1,5 +1,5 @@
 // Bearers of several remotes, both ways, with status reports and all sizes of sequence numbers.
-use super::{Session, expect_sessions};
+use super::{Session, expect_sessions, rows_of};
 use std::alloc::{AllocError, Global};
 use std::test::Fail;
 
@@ -94,27 +94,8 @@ end|total 1 1 ul 1 1 0|total 1 1 dl 1 1 0|total 1 3 ul 3 3 3|total 1 3 dl 0 0 0|
 /// How many remotes the long session has, and how many bearers each of them.
 const EIGHT: u32 = 8;
 
-/// The rows for a bearer. In their text `R` and `D` stand for its remote and for itself, and `#` for a ticket.
-fn rows_of(
-    alloc: Global,
-    rows: &str,
-    remote: u32,
-    drb: u32,
-    ticket: u64,
-) -> Result<String, AllocError> {
-    let mut text = String::new(alloc);
-    for letter in rows.chars() {
-        match letter {
-            'R' => write!(text, "{remote}")?,
-            'D' => write!(text, "{drb}")?,
-            '#' => write!(text, "{ticket}")?,
-            other => text.push(other)?,
-        }
-    }
-    Ok(text)
-}
-
-/// Adds rows for each bearer, with its ticket of those from a first one on.
+/// Adds rows for each bearer, with its ticket of those from a first one on. In their text `R` and `D` stand for its remote and
+/// for itself, and `#` for the ticket.
 fn push_for_each(
     session: &mut Session,
     alloc: Global,
@@ -124,7 +105,12 @@ fn push_for_each(
     for place in 0..EIGHT * EIGHT {
         let (remote, drb) = (place / EIGHT + 1, place % EIGHT + 1);
         let ticket = u64::from(first) + u64::from(place);
-        let text = rows_of(alloc, rows, remote, drb, ticket)?;
+        let numbers = [
+            ('R', u64::from(remote)),
+            ('D', u64::from(drb)),
+            ('#', ticket),
+        ];
+        let text = rows_of(alloc, rows, &numbers)?;
         session.push(text.as_str())?;
     }
     Ok(())

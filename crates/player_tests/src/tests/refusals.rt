@@ -4,6 +4,19 @@ use std::alloc::Global;
 use std::process::Abort;
 use std::test::Fail;
 
+// The tables of two remotes, one of which begins on the relay.
+const CHANNELS: &str = "\
+relayscript 1
+remote 1
+remote 2
+bearer 1 1 12 12
+bearer 1 2 12 12
+uu 1 12
+pc5 1 1 12
+map 1 2 1 1
+path 1 relay 5
+";
+
 // First lines of a script, each with its reason.
 const FIRST_LINES: &str = "\
 relayscript 2|version
@@ -14,7 +27,6 @@ relayscript 1\r|text";
 
 // Lines that no table of a bearer stands before.
 const BEHIND_THE_VERSION: &str = "\
-set queue 5|later
 set queue 5 5|form
 set queue 0|range
 set queue 1025|range
@@ -31,8 +43,6 @@ remote 65536|range
 remote 01|form
 bearer 1 1 12 12|unknown
 bearer 1 1 18 12|unknown
-uu 1 12|later
-uu 8 18|later
 uu 1 12 12|form
 uu 9 12|range
 uu 1 13|range
@@ -51,7 +61,7 @@ const BEHIND_SETTINGS: &str = "\
 set maxretx 3|twice
 set pollpdu 7|twice
 set pollbyte 0|twice
-set queue 6|later
+set queue 6|twice
 bearer 1 1 18 13|range
 bearer 1 1 12 12\t|text";
 
@@ -65,7 +75,6 @@ bearer 2 1 12 12|unknown
 bearer 1 2 12 12 12|form
 bearer 1 33 12 12|range
 bearer 1 2 12 13|range
-pc5 1 1 12|later
 pc5 2 1 12|unknown
 pc5 1 1 12 12|form
 pc5 1 9 12|range
@@ -75,10 +84,25 @@ map 1 1 9 1|range
 start 1 2 ul 5|unknown
 start 1 1 ul 5 5|form
 start 1 1 ul 4294967295|range
-path 1 relay 255|later
 path 1 direct 5|form
 path 1 relay 256|range
 go 1|form";
+
+// Lines behind the channels of a remote that begins on the relay, of whose bearers one has no map row.
+const BEHIND_CHANNELS: &str = "\
+go|map
+uu 1 18|twice
+pc5 1 1 18|twice
+pc5 3 1 12|unknown
+map 1 2 1 1|twice
+map 1 3 1 1|unknown
+map 1 1 2 1|unknown
+map 1 1 1 2|unknown
+map 2 1 1 1|unknown
+path 1 direct|twice
+path 2 relay 5|twice
+path 3 relay 5|twice
+path 3 relay 6|unknown";
 
 // Lines behind `go`.
 const BEHIND_GO: &str = "\
@@ -103,11 +127,8 @@ expire u9 high reasm|range
 stage 5|later
 stage 5 5|form
 stage 0|range
-push p1.1|later
-push d1.1|later
 push p1.1 p1.1|form
 push p1.9|range
-pull u1|later
 pull u1 u1|form
 pull u9|range
 burst|later
@@ -152,13 +173,14 @@ fn refused_lines_and_their_reasons(rt: HostRuntime) -> Result<(), Fail> {
         ("", FIRST_LINES),
         ("relayscript 1\n", BEHIND_THE_VERSION),
         (
-            "relayscript 1\nset maxretx 3\nset pollpdu 0\nset pollbyte 5\nremote 1\n",
+            "relayscript 1\nset maxretx 3\nset pollpdu 0\nset pollbyte 5\nset queue 5\nremote 1\n",
             BEHIND_SETTINGS,
         ),
         (
             "relayscript 1\nremote 1\nbearer 1 1 12 12\n",
             BEHIND_A_BEARER,
         ),
+        (CHANNELS, BEHIND_CHANNELS),
         (TABLES, BEHIND_GO),
         ("relayscript 1\ngo\n", BEHIND_GO),
     ] {

@@ -9,9 +9,6 @@ returns c = record {
   replies = c.replies_that_never_come.ensures;
   quiet = c.quiet_runs_hand_up_all.ensures;
   exact = c.hand_ups_are_exact.ensures;
-  pdus = c.direct_runs_are_carried.ensures;
+  pdus = c.runs_are_carried.ensures;
   reports = c.reports_are_true.ensures;
-  direct = c.chains_can_be_opened.ensures.direct;
-  declared = c.runs_have_declared_tables.ensures;
-  still = c.chains_can_be_opened.ensures.switches;
 }

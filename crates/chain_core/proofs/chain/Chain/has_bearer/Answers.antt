@@ -16,7 +16,7 @@ returns-then-place-rows c =
     let point = IsPartitionPoint-from_clause (is_below a.remote a.drb rows up) rows c.partition_point-place.result c.partition_point-place.ensures.partitioned
     (parted a.remote a.drb rows up) (λ x r f called. search rules) in
     let none : list_any (is_row a.remote a.drb rows up) rows ≡ false = none_here a.remote a.drb rows up c.partition_point-place.result point (λ d lt. absurd (omega (arith, lt, c.if-place-rows.true))) in
-    rw (← c.self.view_is, ← c.bearers-rows.ensures.rows) (sym none)
+    rw (← c.self.view_is, ← c.tables.ensures, ← c.bearers-rows.ensures.rows) (sym none)
 
 pub returns : goal.returns
 returns c =
@@ -25,5 +25,5 @@ returns c =
     let up : IsAscending bearer_rank rows = subst (λ (xs : List BearerRow). IsAscending bearer_rank xs) (sym c.bearers-rows.ensures.rows) c.bearers-rows.ensures.order.ascend in
     let point = IsPartitionPoint-from_clause (is_below a.remote a.drb rows up) rows c.partition_point-place.result c.partition_point-place.ensures.partitioned
     (parted a.remote a.drb rows up) (λ x r f called. search rules) in
-    rw (← c.self.view_is, ← c.bearers-rows.ensures.rows)
+    rw (← c.self.view_is, ← c.tables.ensures, ← c.bearers-rows.ensures.rows)
     (c.is_row.ensures ∙ is_here a.remote a.drb rows up c.partition_point-place.result no_row point (omega (arith, c.if-place-rows.false)))

@@ -1,8 +1,14 @@
-use Rattle.std.proofs.Common.{rules}
-use Rattle.chain_core.specs.Chain.{chain_of}
-use Rattle.chain_core.proofs.Lines.{reports, no_plan_open}
+use Rattle.std.proofs.Common.{[], subst, rules}
+use Rattle.script_text.specs.declared.line.Line.TheVariants.{Report}
+use Rattle.script_text.specs.declared.reply.Reply.TheVariants.{Ok}
+use Rattle.chain_model.specs.State.{Chain}
+use Rattle.chain_model.specs.Steps.{Does}
+use Rattle.chain_core.proofs.Carrying.{chain_at, moved, reports, no_plan_open}
 use Rattle.chain_core.proofs.chain.Chain.report.Goals as goal
 
 pub returns : goal.returns
 returns c =
-    rw (← c.self.view_is) (reports (chain_of c.self.inside) c.args.key c.want_report.new.self (search rules) (no_plan_open c.self.inside.tables.remotes c.args.key.remote) c.want_report.ensures)
+    let n = c.self.inside.nodes in
+    let air = c.self.inside.air in
+    rw (← c.self.view_is) (subst (λ (d : Chain). Does (chain_at n air) (Report c.args.key) [] Ok d) (moved n c.want_report.new.self air c.want_report.ensures.tables)
+    (reports (chain_at n air) c.args.key c.want_report.new.self.nodes (search rules) (no_plan_open n.tables.remotes c.args.key.remote) c.want_report.ensures.wants))

@@ -1,12 +1,5 @@
-use Rattle.std.proofs.lemmas.Bool.{true≢false}
-use Rattle.node_end.proofs.Opening.{gnb_is, gnb_direct}
+use Rattle.node_end.proofs.Opening.{gnb_end}
 use Rattle.node_end.proofs.end.End.of_gnb.Goals as goal
 
-pub invariant_of-result : goal.invariant_of-result
-invariant_of-result c = record {
-  direct = rw (c.in_ok-ports.ensures, c.in_ok-bearers.ensures) (gnb_direct c.args.tables.now c.requires.tables);
-  fed = λ key is. absurd (true≢false is);
-}
-
-pub returns : goal.returns
-returns c = rw (c.in_ok-ports.ensures, c.in_ok-bearers.ensures) (gnb_is c.args.tables.now c.requires.tables)
+pub open-requires : goal.open-requires
+open-requires c = rw (c.in_ok-ports.ensures, c.in_ok-bearers.ensures, c.in_ok-ids.ensures, c.in_ok-copy.ensures) (gnb_end c.args.tables.now c.requires.routes)

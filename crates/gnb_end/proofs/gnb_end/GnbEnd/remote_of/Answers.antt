@@ -1,0 +1,4 @@
+use Rattle.gnb_end.proofs.gnb_end.GnbEnd.remote_of.Goals as goal
+
+pub returns-clause-none : goal.returns-clause-none
+returns-clause-none c = rw (← c.self.view_is) c.remote_of.ensures.none
