@@ -1,7 +1,8 @@
 // An end gives SDUs to its RLC transmitters.
 ghost use Rattle.std.specs.Prelude.{◌≡◌, ◌<◌, length, All, IfOk, OnOk, OnErr};
 ghost use Rattle.link_base.specs.declared.names.Key.{Key};
-ghost use Rattle.node_model.specs.Feeding.{Feeds, FeedsData};
+ghost use Rattle.node_model.specs.State.{incoming};
+ghost use Rattle.node_model.specs.Feeding.{Feeds, FeedsData, wants_report};
 ghost use Rattle.node_bearers.specs.Calls.{Sends, Receives};
 ghost use Rattle.node_end.specs.Fed.{IsKeyFed, AreFedOutside, ArePlaces};
 ghost use Rattle.node_end.specs.Feeding.{HasNumbers, HaveNumbersLeft, KeepsKeys, FeedsReportOf, IsToReport, StopsGiving, StopsFeeding};
@@ -83,11 +84,11 @@ impl EndNode {
         ensures keys { KeepsKeys (node_of self.old) (node_of self.new) }
         ensures end { IsEnd self.old.tables (node_of self.new) }
     {
-        let sent = self.bearers.key(place);
-        let key = back(sent);
-        if !self.wants_report(key) {
+        if !self.wants_report_at(place) {
             return Ok(());
         }
+        let sent = self.bearers.key(place);
+        let key = back(sent);
         if !self.bearers.can_report(place) {
             self.bearers.drop_report(place);
             return Ok(());
@@ -110,6 +111,24 @@ impl EndNode {
         self.ports.give(port, tag, pdu)?;
         self.bearers.report_given(place);
         Ok(())
+    }
+
+    // Whether a status report about what is received at a place is to be given. Most often that is so on no path, and the
+    // remote's path needs no look.
+    fn wants_report_at(&self, place: usize) -> bool
+        requires place { place < length self.now.bearers.incoming }
+        requires sends { place < length self.now.bearers.outgoing }
+        ensures { (key : Key) → Receives (node_of self.now) place key
+            → result ≡ wants_report self.now.tables (node_of self.now)
+            (incoming (node_of self.now) key) }
+    {
+        let every = self.tables.settings().report;
+        if !self.bearers.wants_report_at(place, every, true) {
+            return false;
+        }
+        let remote = self.bearers.key(place).remote;
+        let on_relay = self.id_of(remote).is_some();
+        self.bearers.wants_report_at(place, every, on_relay)
     }
 
     // Gives the data PDUs of a place for which there is room.

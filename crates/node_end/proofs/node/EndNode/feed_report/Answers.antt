@@ -15,22 +15,18 @@ use Rattle.node_end.proofs.Fed.{rests_report}
 use Rattle.node_end.proofs.Feeds.{back_back, no_hop, no_space, one_key, receiver_end, report_end, report_given, report_numbers}
 use Rattle.node_end.proofs.node.EndNode.feed_report.Goals as goal
 
-pub returns-then-not-wants_report-clause-ok : goal.returns-then-not-wants_report-clause-ok
-returns-then-not-wants_report-clause-ok c = λ key is.
+pub returns-then-not-wants_report_at-clause-ok : goal.returns-then-not-wants_report_at-clause-ok
+returns-then-not-wants_report_at-clause-ok c = λ key is.
     let e = c.args.self.now in
-    let n = node_of e in
-    let about = back c.key-sent.result in
-    let quiet = rw c.back-key.ensures at (sym c.wants_report.ensures ∙ c.if-not-wants_report.true) in
-    subst (λ (k : Key). FeedsReportOf e.tables n k c.args.given.now c.args.given.now n)
-    (one_key (map in_key e.bearers.incoming) c.args.place about key c.key-sent.ensures.received is)
-    ([], rests_report e.tables n about (inl quiet), sym (append-nil c.args.given.now))
+    let quiet = sym (c.wants_report_at.ensures key is) ∙ c.if-not-wants_report_at.true in
+    ([], rests_report e.tables (node_of e) key (inl quiet), sym (append-nil c.args.given.now))
 
 pub returns-then-not-can_report-clause-ok : goal.returns-then-not-can_report-clause-ok
 returns-then-not-can_report-clause-ok c = λ key is.
     let e = c.args.self.now in
     let n = node_of e in
     let about = back c.key-sent.result in
-    let wants = rw c.back-key.ensures at (sym c.wants_report.ensures ∙ c.if-not-wants_report.false) in
+    let wants = sym (c.wants_report_at.ensures about c.key-sent.ensures.received) ∙ c.if-not-wants_report_at.false in
     let cannot = sym (c.can_report.ensures about c.key-sent.ensures.received) ∙ c.if-not-can_report.true in
     subst (λ (k : Key). FeedsReportOf e.tables n k c.args.given.now c.args.given.now (with_ends n c.drop_report.new.self))
     (one_key (map in_key e.bearers.incoming) c.args.place about key c.key-sent.ensures.received is)
@@ -100,7 +96,7 @@ returns-clause-ok c = λ key is.
     let spells = c.in_ok-report.ensures about c.key-sent.ensures.received in
     let given = c.report_given.ensures about c.key-sent.ensures.received in
     let g = rw c.back-key.ensures at (c.in_ok-give.ensures.ok n refl) in
-    let wants = rw c.back-key.ensures at (sym c.wants_report.ensures ∙ c.if-not-wants_report.false) in
+    let wants = sym (c.wants_report_at.ensures about c.key-sent.ensures.received) ∙ c.if-not-wants_report_at.false in
     let can = sym (c.can_report.ensures about c.key-sent.ensures.received) ∙ c.if-not-can_report.false in
     let pushed = rw c.back-key.ensures at c.in_ok-push.ensures.ok in
     subst (λ (k : Key). FeedsReportOf e.tables n k c.args.given.now c.push.new.self (end_with (name_of e.remote) c.give.new.self e.ids c.report_given.new.self))
