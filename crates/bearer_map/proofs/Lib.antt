@@ -1,6 +1,7 @@
 mod Inserted
-mod Members
-mod Walk
+pub mod Members
+pub mod Walk
 mod Ascending
 mod Ordered
 mod Kept
+pub mod Detached

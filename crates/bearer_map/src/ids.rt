@@ -47,6 +47,15 @@ impl Ids {
         })
     }
 
+    /// Equal attachments in memory of their own.
+    pub fn copy(&self, alloc: Global) -> Result<Ids, Memory>
+        ensures { IfOk result (λ ids. ids ≡ self.now) }
+    {
+        Ok(Ids {
+            attached: Vec::from_slice(alloc, &self.attached)?,
+        })
+    }
+
     /// Attaches a remote that isn't attached, with a local identity that no remote has. After an `Err` nothing changed.
     pub fn attach(&mut self, remote: Remote, id: LocalId) -> Result<(), Memory>
         requires remote { (other : ℕ) → IsAttached self.old remote other → ⊥ }

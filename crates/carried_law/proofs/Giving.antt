@@ -120,7 +120,7 @@ module _ (laws : SentLaws) (ends : EndLaws) (t : Contents) (apart : TablesApart 
       by (ended line none says is) first = subst ComesUp (sym is) first
 
   -- at each chain of the run an SDU leads to one target
-  once : (ms : List Moment) (c : Chain) → Passes t ms c → AllOnce ms
+  pub once : (ms : List Moment) (c : Chain) → Passes t ms c → AllOnce ms
   once [] c passes = tt
   once (m ∷ ms) c (before, goes) = (one m.before (comes ms m.before before), once ms m.before before)
     where

@@ -30,7 +30,7 @@ fn laws_of_hearing()
 }
 
 /// What the laws of what is sent need of them.
-pub(crate) fn laws_of_hops()
+pub fn laws_of_hops()
     ensures { SentLaws }
 {
     laws_of_hearing();
@@ -50,7 +50,7 @@ fn laws_of_hearings()
 }
 
 /// What the law of what is carried needs of the ends of bearers.
-pub(crate) fn laws_of_ends()
+pub fn laws_of_ends()
     ensures { EndLaws }
 {
     laws_of_hearings();

@@ -7,4 +7,5 @@
 mod foundations;
 mod laws;
 
+pub use foundations::{laws_of_ends, laws_of_hops};
 pub use laws::{runs_are_carried, sent_numbers_begin_in_order, sent_pdus_are_pieces};

@@ -13,12 +13,11 @@ use Rattle.link_base.specs.declared.names.PortName.TheVariants.{Uu}
 use Rattle.bearer_map.specs.declared.ids.Attachment.{Attachment}
 use Rattle.bearer_map.specs.declared.rows.RemoteRow.{RemoteRow}
 use Rattle.bearer_map.specs.declared.rows.UuRow.{UuRow}
-use Rattle.rlc_model.specs.Tx.{Kept}
-use Rattle.rlc_model.specs.Sides.{Entity}
 use Rattle.node_model.specs.declared.parcel.Parcel.{Parcel}
 use Rattle.node_model.specs.Names.{AtRelay, AtGnb, is_id, is_remote}
 use Rattle.node_model.specs.State.{PortSide, Node, entity_at, slot_at, queue_at}
 use Rattle.node_model.specs.Relaying.{ue_of}
+pub use Rattle.node_model.specs.Standing.{tag_bears, kept_bears, entity_bears, slot_bears}
 use Rattle.chain_model.specs.declared.plan.Plan.{Plan}
 use Rattle.chain_model.specs.State.{Chain, node_at, plan_at}
 
@@ -46,26 +45,6 @@ next_plan p goal = record p { goal = goal; epoch = p.epoch + 1; at_remote = fals
 abbrev pub asks_for : LocalId → Goal → Bool
 asks_for id ToDirect = false
 asks_for id (ToRelay other) = is_id id other
-
--- what a transmitter keeps beside an SDU has this local identity
-abbrev pub tag_bears : LocalId → Option LocalId → Bool
-tag_bears id None = false
-tag_bears id (Some ue) = is_id id ue
-
--- an SDU that isn't confirmed bears it
-abbrev pub kept_bears : LocalId → Option Kept → Bool
-kept_bears id None = false
-kept_bears id (Some k) = tag_bears id k.tag.ue
-
--- an SDU in a transmitter that isn't confirmed bears it
-abbrev pub entity_bears : LocalId → Option Entity → Bool
-entity_bears id None = false
-entity_bears id (Some e) = list_any (kept_bears id) e.tx.kept
-
--- an SDU in a slot bears it
-abbrev pub slot_bears : LocalId → Option Parcel → Bool
-slot_bears id None = false
-slot_bears id (Some parcel) = is_id id (ue_of parcel)
 
 -- a plan of the remote is open and asks for it
 abbrev pub plan_asks : LocalId → Option Plan → Bool

@@ -26,7 +26,7 @@ use Rattle.item_place.specs.Places.{Link, Box, Layout, StandsFor, Ingress, Egres
 use Rattle.item_chain.specs.View.{View, view}
 use Rattle.item_chain.specs.Stands.{FitsDirect, IsParcel, PlacesFit, item_tables, Ghost, Stands, Refines, IsQueued, RowFits, as_list}
 use Rattle.item_chain.proofs.Goings.{stays, one_step, reaches_on}
-use Rattle.item_chain.proofs.Reopened.{ports_now, epochs_now, ports_fit, sides_fit, fits_now, directs_now, unopened_now}
+use Rattle.item_chain.proofs.Reopened.{ports_now, epochs_now, ports_fit, sides_fit, fits_now, directs_now, unopened_now, given_now}
 use Rattle.item_chain.proofs.SwitchedEnds.{ends_fit}
 use Rattle.item_chain.proofs.SwitchedItems.{next_chain, next_is}
 use Rattle.item_chain.proofs.SwitchedNodes.{new, sides_there}
@@ -109,7 +109,12 @@ module _ (g : Ghost) (old : Chain) (st : Stands g (view old)) (remote : Remote) 
     }
 
     pub apply_refines : Refines old.tables g (view behind)
-    apply_refines = record { ghost = ghost; goes = one_step T g.chain items_behind step; stands = subst (Stands ghost) same_view apply_stands }
+    apply_refines = record {
+      ghost = ghost;
+      goes = one_step T g.chain items_behind step;
+      given = given_now g (view old) st remote y plan.epoch (is_open_on plan.goal) (view behind).entity;
+      stands = subst (Stands ghost) same_view apply_stands;
+    }
 
   -- at an end nothing of the relay changes
   module _ (apart : AtRelay ≡ node_of kind remote → ⊥) (same_spots : items_behind.spot ≡ g.chain.spot) where

@@ -33,7 +33,7 @@ use Rattle.item_chain.specs.View.{View, view, is_side, put_at}
 use Rattle.item_chain.specs.Stands.{Ghost, Stands, rests, Refines}
 use Rattle.item_chain.proofs.Puts.{of_side, of_port, at_same}
 use Rattle.item_chain.proofs.Views.{entity_set}
-use Rattle.item_chain.proofs.Ports.{own, ports_after, port_moves, port_sends}
+use Rattle.item_chain.proofs.Ports.{own, ports_after, port_moves, port_sends, given_after}
 use Rattle.item_chain.proofs.Quiet.{SameSdus, same_fits, grant_quiet, status_quiet, poll_quiet, reassembly_quiet, prohibit_quiet}
 use Rattle.item_chain.proofs.Tags.{IsQuiet}
 use Rattle.item_chain.proofs.Goings.{stays}
@@ -75,6 +75,7 @@ module _ (g : Ghost) (v : View) (st : Stands g v) (at : Side) (port : PortName) 
   sent n status number bytes tx rx s = record {
     ghost = record g { ports = ports_after g v st at port e is_open (about status (way_from at)) (granting status n) tx rx s.behind s.moves };
     goes = rests;
+    given = given_after g v st at port e is_open (about status (way_from at)) (granting status n) tx rx s.behind s.moves;
     stands = port_sends g v st at port e is_open (about status (way_from at)) (granting status n) tx rx s.behind s.moves (no_sdu status)
         (same_fits g.spell (hop_of its (about status (way_from at))) (hop_of s.behind (about status (way_from at))) (g.layout.box (Link port (about status (way_from at)) e.epoch))
         (quiet status s.moves.moves.happens) (old_fits (about status (way_from at))))
@@ -96,6 +97,7 @@ module _ (g : Ghost) (v : View) (st : Stands g v) (at : Side) (port : PortName) 
   runs_out timer tx rx s = record {
     ghost = record g { ports = ports_after g v st at port e is_open (timing timer at) (expiring timer) tx rx s.0 s.1 };
     goes = rests;
+    given = given_after g v st at port e is_open (timing timer at) (expiring timer) tx rx s.0 s.1;
     stands = port_moves g v st at port e is_open (timing timer at) (expiring timer) tx rx s.0 s.1 (no_sdu timer)
         (same_fits g.spell (hop_of its (timing timer at)) (hop_of s.0 (timing timer at)) (g.layout.box (Link port (timing timer at) e.epoch)) (quiet timer s.1.moves.happens)
         (old_fits (timing timer at)));

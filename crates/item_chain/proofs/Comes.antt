@@ -32,11 +32,12 @@ use Rattle.item_chain.proofs.Goings.{stays}
 use Rattle.item_chain.proofs.Heard.{IsHandedOver, handed_over, its_open, node_with, side_with, Completes, Confirms, pdu_hears}
 use Rattle.item_chain.proofs.Hearing.{hears_way, status_stands}
 use Rattle.item_chain.proofs.Confirms.{confirm_all, all_done}
-use Rattle.item_chain.proofs.Ports.{ports_after}
+use Rattle.item_chain.proofs.Ports.{ports_after, given_after}
 use Rattle.item_chain.proofs.RelayHears.{up_completes, up_confirms, down_completes, down_confirms}
 use Rattle.item_chain.proofs.Taken.{pdcp_taken}
 use Rattle.item_chain.proofs.Tickets.{lost}
 use Rattle.item_chain.proofs.Views.{same_node, entity_set}
+use Rattle.item_chain.proofs.Given.{given_on}
 
 module _ (l : PduLaws) (g : Ghost) (old : Chain) (st : Stands g (view old)) (ticket epoch number : ℕ) (kind : Bool) (bytes : List ℕ) (r : Remote) (d : Drb) (w : Way) where
   abbrev direct_pdu : Pdu
@@ -65,7 +66,13 @@ module _ (l : PduLaws) (g : Ghost) (old : Chain) (st : Stands g (view old)) (tic
         let more = confirm_all old name r d may.side may.here tags behind (node_with g old st ticket direct_pdu on may tx rx) (node_name old name)
         (subst (Stands behind) (sym (entity_set old (hearer_of w) (Direct r d) may.side may.here x)) heard)
         (all_done g (view old) st may.entity number bytes tx rx r d w opened tags marks h) in
-        record { ghost = more.ghost; goes = more.goes; stands = more.stands }
+        record {
+          ghost = more.ghost;
+          goes = more.goes;
+          given = given_on g.ports behind.ports more.ghost.ports
+              (given_after g (view old) st (hearer_of w) (Direct r d) may.entity opened (flip w) (DeliverStatus h.heard) tx rx h.behind h.moves) more.given;
+          stands = more.stands;
+        }
 
 module _ (l : PduLaws) (g : Ghost) (old : Chain) (st : Stands g (view old)) (ticket : ℕ) where
   comes_to : (port : PortName) (way : Way) (epoch number : ℕ) (kind : Bool) (bytes : List ℕ)
@@ -130,4 +137,4 @@ module _ (l : PduLaws) (g : Ghost) (old : Chain) (st : Stands g (view old)) (tic
 
   -- the PDU of a ticket goes off the air
   pub goes_without : Goes_on (without ticket)
-  goes_without c r = record { ghost = r.ghost; goes = r.goes; stands = lost r.ghost (view c) ticket r.stands }
+  goes_without c r = record { ghost = r.ghost; goes = r.goes; given = r.given; stands = lost r.ghost (view c) ticket r.stands }

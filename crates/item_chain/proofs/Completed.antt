@@ -1,5 +1,5 @@
 -- An SDU completes at a side: its item goes into the slot of the port, or leaves the hop for good.
-use Rattle.std.proofs.Common.{◌≡◌, inl, inr, ℕ, true, false, List, [], Option, Some, None, refl, sym, ◌∙◌, ap, subst}
+use Rattle.std.proofs.Common.{◌≡◌, inl, inr, ℕ, false, List, [], Option, Some, None, refl, sym, ◌∙◌, ap, subst}
 use Rattle.std.proofs.lemmas.Option.{none-some, same_Some}
 use Rattle.link_base.specs.declared.names.Key.{Key}
 use Rattle.link_base.specs.declared.names.PortName.{PortName}
@@ -13,7 +13,7 @@ use Rattle.rlc_law.specs.Hop.{Deliver}
 use Rattle.rlc_law.specs.Ports.{Port, hop_of}
 use Rattle.rlc_law.specs.PortLaws.{HearsDataMade}
 use Rattle.node_model.specs.declared.parcel.Parcel.{Parcel}
-use Rattle.node_model.specs.Names.{NodeName, is_port, is_of}
+use Rattle.node_model.specs.Names.{NodeName, is_port}
 use Rattle.node_model.specs.State.{Incoming, Outgoing}
 use Rattle.item_law.specs.State.{Sdu, Spot, InSlot, Arrived, is_number, put, is_on_its_way}
 use Rattle.item_law.specs.State.{Chain as ItemChain, Sender as ItemSender}
@@ -25,9 +25,10 @@ use Rattle.item_place.proofs.Boxes.{of_station}
 use Rattle.item_place.proofs.Moving.{moves_on}
 use Rattle.item_place.proofs.Leaving.{leaves_on}
 use Rattle.item_chain.specs.View.{View, is_side, put_at}
-use Rattle.item_chain.specs.Stands.{FitsDirect, IsParcel, RowFits, as_list, IsQueued, EndsFit, item_tables, Ghost, Stands, Refines}
+use Rattle.item_chain.specs.Stands.{FitsDirect, IsParcel, RowFits, as_list, IsQueued, EndsFit, item_tables, Ghost, Stands, Refines, IsOfSlot}
 use Rattle.item_chain.proofs.Puts.{of_port}
-use Rattle.item_chain.proofs.Ports.{own, ports_after, sides_after, air_after, unopened_after, hops_after, directs_after, direct_quiet, paths_after, openings_after, link_port, link_epoch}
+use Rattle.item_chain.proofs.Ports.{own, ports_after, sides_after, air_after, unopened_after, hops_after, directs_after}
+use Rattle.item_chain.proofs.Ports.{direct_quiet, paths_after, openings_after, link_port, link_epoch, given_after}
 use Rattle.item_chain.proofs.Rows.{row_to, row_other, row_stays, box_from, box_other, parcel_keeps}
 use Rattle.item_chain.proofs.Pushes.{ingress_is, ingress_egress, link_ingress, link_egress}
 use Rattle.item_chain.proofs.Hearing.{its, item_heard, hop_left}
@@ -77,7 +78,7 @@ module _ (g : Ghost) (v : View) (st : Stands g v) (way : Way) (name : PortName) 
   -- it goes into the slot
   module _ (free : v.slot name ≡ None) (to : Parcel) (q : Remote) (no_arrival : OnlyArrives name (InSlot q))
       (step : Step (item_tables v.tables) g.chain (record g.chain { spot = put is_number g.chain.spot n (InSlot q) }))
-      (its_own : (r : Remote) → is_of r name ≡ true → to.route.key.remote ≡ r)
+      (its_own : IsOfSlot name to)
       (parcel : IsParcel v.tables g.chain.items (put is_number g.chain.spot n (InSlot q)) g.spell to n) where
     abbrev B : Station
     B = Ingress name
@@ -115,11 +116,11 @@ module _ (g : Ghost) (v : View) (st : Stands g v) (way : Way) (name : PortName) 
     queues p = row_other g.layout.box A x B n apart stood st.layout.once (IsQueued P p) (IsQueued Q p) (λ y m ne w. (w.0, keeps y m ne w.1))
         (Egress p) (v.queue p) (λ s. link_egress name p way e.epoch (sym s)) (λ s. ingress_egress name p (sym s)) (st.places.queues p)
 
-    owns : (p : PortName) (y : Parcel) → slot_after p ≡ Some y → (r : Remote) → is_of r p ≡ true → y.route.key.remote ≡ r
-    owns p y is r of = elim (cases_same of_port p name) [
-      | inl same ↦ ap (λ (z : Parcel). z.route.key.remote) (sym (same_Some to y (sym (ap slot_after same ∙ put_same of_port v.slot name (Some to)) ∙ is)))
-          ∙ its_own r (ap (is_of r) (sym same) ∙ of)
-      | inr ne ↦ st.places.own p y (sym (put_other of_port v.slot name (Some to) p ne) ∙ is) r of
+    owns : (p : PortName) (y : Parcel) → slot_after p ≡ Some y → IsOfSlot p y
+    owns p y is = elim (cases_same of_port p name) [
+      | inl same ↦ subst (λ (z : Parcel). IsOfSlot p z) (same_Some to y (sym (ap slot_after same ∙ put_same of_port v.slot name (Some to)) ∙ is))
+          (subst (λ (q : PortName). IsOfSlot q to) (sym same) its_own)
+      | inr ne ↦ st.places.own p y (sym (put_other of_port v.slot name (Some to) p ne) ∙ is)
     ]
 
     pub slotted : Refines v.tables g (record v { entity = put_at is_side is_port v.entity (hearer_of way) name (Some (record e { tx = tx; rx = rx })); slot = slot_after })
@@ -130,6 +131,7 @@ module _ (g : Ghost) (v : View) (st : Stands g v) (way : Way) (name : PortName) 
         ports = ports_after g v st (hearer_of way) name e is_open way (Deliver h.heard) tx rx h.behind h.moves;
       };
       goes = one_step (item_tables v.tables) g.chain (record g.chain { spot = put is_number g.chain.spot n (InSlot q) }) step;
+      given = given_after g v st (hearer_of way) name e is_open way (Deliver h.heard) tx rx h.behind h.moves;
       stands = record {
         good = st.good;
         reaches = reaches_on (item_tables v.tables) g.chain (record g.chain { spot = put is_number g.chain.spot n (InSlot q) }) st.reaches step;
@@ -188,6 +190,7 @@ module _ (g : Ghost) (v : View) (st : Stands g v) (way : Way) (name : PortName) 
             ports_after g v st (hearer_of way) name e is_open way (Deliver h.heard) tx rx h.behind h.moves;
       };
       goes = one_step (item_tables v.tables) g.chain after step;
+      given = given_after g v st (hearer_of way) name e is_open way (Deliver h.heard) tx rx h.behind h.moves;
       stands = record {
         good = st.good;
         reaches = reaches_on (item_tables v.tables) g.chain after st.reaches step;

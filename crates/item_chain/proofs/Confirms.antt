@@ -46,6 +46,7 @@ use Rattle.item_chain.proofs.Hearing.{its}
 use Rattle.item_chain.proofs.Ports.{own}
 use Rattle.item_chain.proofs.Quiet.{same_fits, acknowledge_quiet}
 use Rattle.item_chain.proofs.Views.{same_node, set_twice, node_behind, outgoing_set}
+use Rattle.item_chain.proofs.Given.{given_same}
 
 module _ (a : ItemSender) (s : Sender) (fit : SenderFits a s) (c count : ℕ) (is_count : count ≡ s.first + c) where
   abbrev test : ℕ → Bool
@@ -195,7 +196,7 @@ module _ (old : Chain) (name : NodeName) (r : Remote) (d : Drb) (row : PortSide)
 
   pub confirm_all : (tags : List Tag) (g : Ghost) (n : Node) → n.name ≡ name → Stands g (view (set_node old n)) → AllDone old.tables g.chain.items g.chain.spot name tags
       → Refines old.tables g (view (set_node old (fold (λ node (tag : Tag). confirm_count node tag.key tag.count) n tags)))
-  confirm_all [] g n named st done = record { ghost = g; goes = rests; stands = st }
+  confirm_all [] g n named st done = record { ghost = g; goes = rests; given = given_same g.ports; stands = st }
   confirm_all (tag ∷ tags) g n named st done =
       let one = confirm_one g (set_node old n) st name tag done.0 in
       let next : Node = confirm_count n tag.key tag.count in
@@ -205,7 +206,7 @@ module _ (old : Chain) (name : NodeName) (r : Remote) (d : Drb) (row : PortSide)
       ∙ ap view (set_twice old n next (sym same_name)) in
       let more = confirm_all tags (record g { chain = record g.chain { sender = one.sender } }) next (same_name ∙ named)
       (subst (Stands (record g { chain = record g.chain { sender = one.sender } })) is one.stands) done.1 in
-      record { ghost = more.ghost; goes = goes_on one.goes more.goes; stands = more.stands }
+      record { ghost = more.ghost; goes = goes_on one.goes more.goes; given = more.given; stands = more.stands }
 
 -- each tag that is newly confirmed is that of an SDU which was kept, and is no more
 tags_done : (t : Contents) (items : ℕ → Option Item) (spot : ℕ → Spot) (name : NodeName) (olds news : List (Option Kept))

@@ -1,12 +1,14 @@
 -- A node feeds: each status report and each data PDU that it gives is given by item steps.
-use Rattle.std.proofs.Common.{◌≡◌, ◌⊎◌, inl, inr, ◌+◌, true, false, not, ◌&&◌, ◌||◌, nat_lt, nat_le, List, [], ◌∷◌, map, Option, Some, None, is_some, unwrap_or, refl, sym, ◌∙◌, ap, subst, arith}
+use Rattle.std.proofs.Common.{◌≡◌, ◌⊎◌, inl, inr, ◌+◌, true, not, ◌&&◌, ◌||◌, nat_lt, nat_le, List, []}
+use Rattle.std.proofs.Common.{◌∷◌, map, Option, Some, None, is_some, unwrap_or, refl, sym, ◌∙◌, ap, subst, arith}
 use Rattle.std.proofs.lemmas.Bool.{and_parts, false≢true, leb-true, ltb-true}
 use Rattle.std.proofs.lemmas.Option.{none-some}
 use Rattle.link_base.specs.declared.names.Key.{Key}
 use Rattle.bearer_map.specs.Contents.{Contents}
 use Rattle.pdcp_model.specs.Receiver.{can_report}
 use Rattle.pdcp_model.specs.Sender.{has_next, kept_at, next}
-use Rattle.node_model.specs.Feeding.{has_room, is_enough, wants_report, GivesReport, FeedsReport, unwanted, dropped, no_room, gives as gives_report, FeedsReports, GivesData, FeedsData, rests as rests_data, gives as gives_data, FeedsEach, Feeds, in_key, out_key}
+use Rattle.node_model.specs.Feeding.{has_room, is_enough, wants_report, GivesReport, FeedsReport, unwanted, dropped, no_room, gives as gives_report}
+use Rattle.node_model.specs.Feeding.{FeedsReports, GivesData, FeedsData, rests as rests_data, gives as gives_data, FeedsEach, Feeds, in_key, out_key}
 use Rattle.node_model.specs.Names.{NodeName, source, sink}
 use Rattle.node_model.specs.State.{Incoming, Outgoing, Node, incoming, outgoing, incoming_at, outgoing_at, id_at, no_incoming, no_outgoing}
 use Rattle.node_model.specs.Tables.{settings}
@@ -21,6 +23,7 @@ use Rattle.item_chain.proofs.Goings.{goes_on, stays}
 use Rattle.item_chain.proofs.Reports.{tells_all}
 use Rattle.item_chain.proofs.Taken.{back_source}
 use Rattle.item_chain.proofs.Views.{same_node, set_twice}
+use Rattle.item_chain.proofs.Given.{given_on}
 
 -- in each chain of these tables that has the old node under its name, and for which a ghost stands, the items go by steps as the new node is set
 pub record NodeGoes (t : Contents) (name : NodeName) (old new : Node) : Type 0 where
@@ -46,6 +49,7 @@ module _ (t : Contents) (name : NodeName) where
         record {
           ghost = two.ghost;
           goes = goes_on one.goes two.goes;
+          given = given_on g.ports one.ghost.ports two.ghost.ports one.given two.given;
           stands = subst (λ (y : Chain). Stands two.ghost (view y)) (set_twice x b c (p.named ∙ sym q.named)) two.stands;
         };
   }

@@ -21,6 +21,7 @@ use Rattle.item_chain.specs.Runs.{FeedingGoesByItemSteps, StepsGoByItemSteps}
 use Rattle.item_chain.proofs.Feeds.{NodeGoes, feeds_go}
 use Rattle.item_chain.proofs.Goings.{goes_on, stays}
 use Rattle.item_chain.proofs.Views.{view_is}
+use Rattle.item_chain.proofs.Given.{given_on}
 
 -- lists of nodes in which each name finds the same show the same
 view_by_name : (c d : Chain) → d.tables ≡ c.tables → d.plans ≡ c.plans → d.air ≡ c.air → ((name : NodeName) → find_node d name ≡ find_node c name) → view d ≡ view c
@@ -91,6 +92,7 @@ all_go c pre (n ∷ ns) given ms (m, rest, first, more, one, others, are, is) g 
     record {
       ghost = next.ghost;
       goes = goes_on step.goes next.goes;
+      given = given_on g.ports step.ghost.ports next.ghost.ports step.given next.given;
       stands = subst (λ (l : List Node). Stands next.ghost (view (record c { nodes = l })))
           (append_assoc pre (m ∷ []) rest ∙ ap (λ (l : List Node). pre ++ l) (sym is)) next.stands;
     }
@@ -104,4 +106,9 @@ steps_go lines g old st line events reply new is step =
     let tables : step.mid.tables ≡ old.tables = does_view tables_of tables_steady old step.mid line step.own reply step.does in
     let fed = feeding_goes first.ghost step.mid first.stands step.given step.nodes step.feeds in
     let second = subst (λ (t : Contents). Refines t first.ghost (view (record step.mid { nodes = step.nodes }))) tables fed in
-    record { ghost = second.ghost; goes = goes_on first.goes second.goes; stands = subst (λ (c : Chain). Stands second.ghost (view c)) (sym step.is) second.stands }
+    record {
+      ghost = second.ghost;
+      goes = goes_on first.goes second.goes;
+      given = given_on g.ports first.ghost.ports second.ghost.ports first.given second.given;
+      stands = subst (λ (c : Chain). Stands second.ghost (view c)) (sym step.is) second.stands;
+    }

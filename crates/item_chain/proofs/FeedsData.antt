@@ -32,7 +32,7 @@ use Rattle.item_chain.specs.Stands.{id_of, item_tables, IsSpelt, IsLongEnough, I
 use Rattle.item_chain.proofs.Calls.{way_sends}
 use Rattle.item_chain.proofs.Ends.{outgoing_goes}
 use Rattle.item_chain.proofs.FirstHops.{id_back, first_by, own, here, its_open, its_goal, is_open_by}
-use Rattle.item_chain.proofs.Gives.{ghost as ghost_given, given_stands}
+use Rattle.item_chain.proofs.Gives.{ghost as ghost_given, given_more, given_stands}
 use Rattle.item_chain.proofs.Goings.{reaches_goes}
 use Rattle.item_chain.proofs.Puts.{put_twice, put_own}
 use Rattle.item_chain.proofs.Views.{both_out}
@@ -268,6 +268,8 @@ module _ (g : Ghost) (c : Chain) (st : Stands g (view c)) (o : Outgoing) (has : 
     ghost = ghost_given g v st (sender_of k.way) p e (its_open g c st k tag pdu_bytes x.mid its) i bytes tag its.number its.tx its.gives (sym (way_sends k.way)) by spells
         long tagged bears senders g.chain.wanted;
     goes = all_goes;
+    given = given_more g v st (sender_of k.way) p e (its_open g c st k tag pdu_bytes x.mid its) i bytes tag its.number its.tx its.gives (sym (way_sends k.way)) by spells
+        long tagged bears senders g.chain.wanted;
     stands = subst (Stands _) (sym seen)
         (given_stands g v st (sender_of k.way) p e (its_open g c st k tag pdu_bytes x.mid its) i bytes tag its.number its.tx its.gives (sym (way_sends k.way)) by spells
         long tagged bears senders g.chain.wanted

@@ -25,7 +25,7 @@ use Rattle.item_chain.specs.Stands.{id_of, item_tables, IsSpelt, IncomingFits, E
 use Rattle.item_chain.proofs.Calls.{way_sends}
 use Rattle.item_chain.proofs.Ends.{incoming_wants}
 use Rattle.item_chain.proofs.FirstHops.{id_back, first_by, own, here, its_open, its_goal, is_open_by}
-use Rattle.item_chain.proofs.Gives.{ghost as ghost_given, given_stands}
+use Rattle.item_chain.proofs.Gives.{ghost as ghost_given, given_more, given_stands}
 use Rattle.item_chain.proofs.Goings.{reaches_goes}
 use Rattle.item_chain.proofs.Puts.{put_twice}
 use Rattle.item_chain.proofs.Reports.{tells_all, deliv_low, report_spelt, report_fits, names_heard}
@@ -169,6 +169,8 @@ module _ (g : Ghost) (c : Chain) (st : Stands g (view c)) (j : Incoming) (has : 
     ghost = ghost_given g v st (sender_of to.way) p e (its_open g c st to tag pdu_bytes y.mid its) i bytes tag its.number its.tx its.gives (sym (way_sends to.way)) by spells
         (report_spelt (id_at node k.remote) k.drb r.size r y.fmc y.map y.its (tells_all g v st (sink k) k j has)) refl bears g.chain.sender wants;
     goes = all_goes;
+    given = given_more g v st (sender_of to.way) p e (its_open g c st to tag pdu_bytes y.mid its) i bytes tag its.number its.tx its.gives (sym (way_sends to.way)) by spells
+        (report_spelt (id_at node k.remote) k.drb r.size r y.fmc y.map y.its (tells_all g v st (sink k) k j has)) refl bears g.chain.sender wants;
     stands = subst (Stands _) (sym seen)
         (given_stands g v st (sender_of to.way) p e (its_open g c st to tag pdu_bytes y.mid its) i bytes tag its.number its.tx its.gives (sym (way_sends to.way)) by spells
         (report_spelt (id_at node k.remote) k.drb r.size r y.fmc y.map y.its (tells_all g v st (sink k) k j has)) refl bears g.chain.sender wants

@@ -1,5 +1,6 @@
 -- A local identity that is in use at no place: no path has it, and no item is held under it at the relay or on a Uu hop.
-use Rattle.std.proofs.Common.{◌≡◌, ◌⊎◌, inl, inr, ℕ, zero, suc, ◌+◌, ◌-◌, ◌≤◌, ◌==◌, ◌&&◌, Bool, true, false, not, List, [], ◌∷◌, ◌++◌, get_or, map, find, Option, Some, None, refl, sym, ◌∙◌, ap, subst, arith}
+use Rattle.std.proofs.Common.{◌≡◌, ◌⊎◌, inl, inr, ℕ, zero, suc, ◌+◌, ◌-◌, ◌≤◌, ◌==◌, ◌&&◌, Bool, true, false, not}
+use Rattle.std.proofs.Common.{List, [], ◌∷◌, ◌++◌, get_or, map, find, Option, Some, None, refl, sym, ◌∙◌, ap, subst, arith}
 use Rattle.std.specs.List.{list_any, slice_get}
 use Rattle.std.specs.Option.{unwrap_or, option_map, option_and_then}
 use Rattle.std.proofs.lemmas.Bool.{cases_Bool, cases_lt, cond-true, cond-false, and_from, or_left, or_right, true≢false, false≢true, eq-eqb}
@@ -62,7 +63,7 @@ id_bears : (u v : LocalId) → v ≡ u → is_id u v ≡ true
 id_bears u v e = ap (is_id u) e ∙ id_refl u
 
 -- an identity is read of a path
-goal_some : (o : Option LocalId) (u : LocalId) → goal_of o ≡ ToRelay u → o ≡ Some u
+pub goal_some : (o : Option LocalId) (u : LocalId) → goal_of o ≡ ToRelay u → o ≡ Some u
 goal_some None u e = absurd (ne e)
   where
     ne : ToDirect ≡ ToRelay u → ⊥
@@ -87,23 +88,28 @@ still_there b k n e = elim (cases_Bool (b.left k)) [
   | inr stays ↦ stays
 ]
 
--- what stands in a row is one of its SDUs
-pub in_row : (P : Parcel → ℕ → Type 0) (b : Box) (xs : List Parcel) → RowFits P b xs → (k n : ℕ) → at b k ≡ Some n → (x : Parcel) × IsIn xs x × P x n
-in_row P b xs row k n e =
+-- what stands in a row is one of its SDUs, at its position behind what went on
+pub at_row : (P : Parcel → ℕ → Type 0) (b : Box) (xs : List Parcel) (row : RowFits P b xs) (k n : ℕ) → at b k ≡ Some n
+    → (j : ℕ) × (x : Parcel) × (slice_get xs j ≡ Some x) × (row.from + j ≡ k) × P x n
+at_row P b xs row k n e =
     let stays : b.left k ≡ false = still_there b k n e in
     let log : slice_get b.log k ≡ Some n = at_log b k n e in
     let from : row.from ≤ k = not_gone k stays in
     let j : ℕ = k - row.from in
     let x = has_at xs j (omega (arith, slice_get_within b.log k n log, row.long, from)) in
     let its = row.each j x.0 x.1 in
-    let same : its.0 ≡ n = same_Some its.0 n (sym its.1 ∙ ap (slice_get b.log) (let here : row.from + j ≡ k = omega (arith, from) in here) ∙ log) in
-    (x.0, get_in xs j x.0 x.1, subst (P x.0) same its.2)
+    let here : row.from + j ≡ k = omega (arith, from) in
+    let same : its.0 ≡ n = same_Some its.0 n (sym its.1 ∙ ap (slice_get b.log) here ∙ log) in
+    (j, x.0, x.1, here, subst (P x.0) same its.2)
   where
     not_gone : (k : ℕ) → b.left k ≡ false → row.from ≤ k
     not_gone k stays = elim (cases_lt k row.from) [
       | inl lt ↦ absurd (true≢false (sym (row.gone k lt) ∙ stays))
       | inr le ↦ le
     ]
+
+pub in_row : (P : Parcel → ℕ → Type 0) (b : Box) (xs : List Parcel) → RowFits P b xs → (k n : ℕ) → at b k ≡ Some n → (x : Parcel) × IsIn xs x × P x n
+in_row P b xs row k n e = let x = at_row P b xs row k n e in (x.1, get_in xs x.0 x.1 x.2, x.4)
 
 -- what a slot holds
 pub slot_is : (o : Option Parcel) (x : Parcel) → IsIn (as_list o) x → o ≡ Some x
@@ -154,7 +160,7 @@ module _ (g : Ghost) (c : Chain) (st : Stands g (view c)) (u : LocalId) (free : 
       )
 
   -- no node attaches it
-  not_attached : (q : Remote) → has_remote c.tables q ≡ true → (name : NodeName) → id_in (node_at c name).attached q ≡ Some u → ⊥
+  pub not_attached : (q : Remote) → has_remote c.tables q ≡ true → (name : NodeName) → id_in (node_at c name).attached q ≡ Some u → ⊥
   not_attached q has name is =
       let row = remote_row q has in
       not_at (Attached row.0.remote)
@@ -169,7 +175,7 @@ module _ (g : Ghost) (c : Chain) (st : Stands g (view c)) (u : LocalId) (free : 
           (id_any found.0.attached q u (sym (ap (λ (o : Option Node). id_in (unwrap_or o (no_node name)).attached q) found.1) ∙ is))
 
   -- no open plan asks for it
-  not_planned : (q : Remote) → has_remote c.tables q ≡ true → (p : Plan) → plan_at c q ≡ Some p → is_open p ≡ true → p.goal ≡ ToRelay u → ⊥
+  pub not_planned : (q : Remote) → has_remote c.tables q ≡ true → (p : Plan) → plan_at c q ≡ Some p → is_open p ≡ true → p.goal ≡ ToRelay u → ⊥
   not_planned q has p is still asks =
       let row = remote_row q has in
       not_at (Planned row.0.remote)
@@ -211,7 +217,7 @@ module _ (g : Ghost) (c : Chain) (st : Stands g (view c)) (u : LocalId) (free : 
   side_there None x e = absurd (none-some x e)
   side_there (Some s) x e = (s, refl)
 
-  not_in_slot : (p : PortName) (x : Parcel) → slot_at (node_at c AtRelay) p ≡ Some x → ue_of x ≡ u → ⊥
+  pub not_in_slot : (p : PortName) (x : Parcel) → slot_at (node_at c AtRelay) p ≡ Some x → ue_of x ≡ u → ⊥
   not_in_slot p x is same =
       let s = side_there (side_at (node_at c AtRelay) p) x is in
       not_at (Slot s.0.name)
@@ -223,7 +229,7 @@ module _ (g : Ghost) (c : Chain) (st : Stands g (view c)) (u : LocalId) (free : 
   queue_there None x i = absurd i
   queue_there (Some s) x i = (s, refl)
 
-  not_in_queue : (p : PortName) (x : Parcel) → IsIn (queue_at (node_at c AtRelay) p) x → ue_of x ≡ u → ⊥
+  pub not_in_queue : (p : PortName) (x : Parcel) → IsIn (queue_at (node_at c AtRelay) p) x → ue_of x ≡ u → ⊥
   not_in_queue p x among same =
       let s = queue_there (side_at (node_at c AtRelay) p) x among in
       not_at (Queue s.0.name)
@@ -233,7 +239,7 @@ module _ (g : Ghost) (c : Chain) (st : Stands g (view c)) (u : LocalId) (free : 
       (passes_any (λ (x : Parcel). is_id u (ue_of x)) (queue_at (node_at c AtRelay) p) x among (id_bears u (ue_of x) same)))
 
   -- an SDU in the transmitter of a Uu port that isn't confirmed
-  uu_place : (chan : Chan) → has_uu c.tables chan ≡ true → is_at c u (UuChan chan) ≡ true → ⊥
+  pub uu_place : (chan : Chan) → has_uu c.tables chan ≡ true → is_at c u (UuChan chan) ≡ true → ⊥
   uu_place chan has busy =
       let row = any_found (λ (row : UuRow). chan.0 == row.chan.0) c.tables.uus has in
       let same : chan ≡ row.0.chan = uu_chan chan row.0.chan (port_is (Uu chan) (Uu row.0.chan)
@@ -243,11 +249,11 @@ module _ (g : Ghost) (c : Chain) (st : Stands g (view c)) (u : LocalId) (free : 
       (made_in (λ (row : UuRow). UuChan row.chan) c.tables.uus row.0 (found_in (λ (row : UuRow). chan.0 == row.chan.0) c.tables.uus row.0 row.1)))
       (subst (λ (x : Chan). is_at c u (UuChan x) ≡ true) same busy)
 
-  at_transmitter : (w : Way) (chan : Chan) (e : Entity) → (view c).entity (sender_of w) (Uu chan) ≡ Some e → entity_bears u (Some e) ≡ true → is_at c u (UuChan chan) ≡ true
+  pub at_transmitter : (w : Way) (chan : Chan) (e : Entity) → (view c).entity (sender_of w) (Uu chan) ≡ Some e → entity_bears u (Some e) ≡ true → is_at c u (UuChan chan) ≡ true
   at_transmitter Ul chan e is bears = or_left _ _ (ap (entity_bears u) is ∙ bears)
   at_transmitter Dl chan e is bears = or_right _ _ (ap (entity_bears u) is ∙ bears)
 
-  kept_in : (ks : List (Option Kept)) (k : ℕ) (x : Kept) → get_or ks k None ≡ Some x → IsIn ks (Some x)
+  pub kept_in : (ks : List (Option Kept)) (k : ℕ) (x : Kept) → get_or ks k None ≡ Some x → IsIn ks (Some x)
   kept_in [] k x e = absurd (none-some x e)
   kept_in (y ∷ ys) zero x e = inl e
   kept_in (y ∷ ys) (suc k) x e = inr (kept_in ys k x e)

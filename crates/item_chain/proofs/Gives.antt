@@ -1,5 +1,5 @@
 -- An end gives one PDU to its first hop: a new item comes to the end of the hop's box.
-use Rattle.std.proofs.Common.{◌≡◌, inl, inr, ℕ, ◌<◌, Bool, true, false, List, [], ◌∷◌, ◌++◌, length, get_or, Option, Some, None, refl, sym, ◌∙◌, ap, subst, arith}
+use Rattle.std.proofs.Common.{◌≡◌, inl, inr, ℕ, ◌<◌, Bool, false, List, [], ◌∷◌, ◌++◌, length, get_or, Option, Some, None, refl, sym, ◌∙◌, ap, subst, arith}
 use Rattle.std.specs.List.{slice_get}
 use Rattle.std.proofs.lemmas.Bool.{false≢true}
 use Rattle.std.proofs.lemmas.List.{get_or_append_left}
@@ -34,9 +34,11 @@ use Rattle.item_place.proofs.Boxes.{of_station}
 use Rattle.item_place.proofs.Entering.{enters_on, not_new}
 use Rattle.item_place.proofs.Pushed.{push_was}
 use Rattle.item_chain.specs.View.{View, is_side, put_at}
-use Rattle.item_chain.specs.Stands.{id_of, IsSpelt, IsLongEnough, IsTag, FitsDirect, IsParcel, RowFits, IsQueued, as_list, routed_for, item_tables, EndsFit, calm, Ghost, Stands}
+use Rattle.item_chain.specs.Stands.{id_of, IsSpelt, IsLongEnough, IsTag, FitsDirect, IsParcel, RowFits, IsQueued}
+use Rattle.item_chain.specs.Stands.{as_list, routed_for, item_tables, EndsFit, calm, Ghost, Stands, KeepGiven}
 use Rattle.item_chain.proofs.Headers.{pc5_direct, uu_direct}
-use Rattle.item_chain.proofs.Ports.{own, ports_after, sides_after, air_after, unopened_after, hops_after, directs_after, paths_after, openings_after, link_port, link_epoch}
+use Rattle.item_chain.proofs.Ports.{own, ports_after, sides_after, air_after, unopened_after, hops_after}
+use Rattle.item_chain.proofs.Ports.{directs_after, paths_after, openings_after, link_port, link_epoch, given_after}
 use Rattle.item_chain.proofs.Pushes.{link_ingress, link_egress}
 use Rattle.item_chain.proofs.Quiet.{at_end, given_fits}
 use Rattle.item_chain.proofs.Rows.{row_map}
@@ -45,10 +47,10 @@ use Rattle.item_chain.proofs.Tags.{bears_more}
 below_not : (m n : ℕ) → m < n → m ≡ n → ⊥
 below_not m n lt e = absurd (omega (arith, lt, e))
 
-direct_remote : (r q : Remote) (d e : Drb) → Direct r d ≡ Direct q e → r ≡ q
+pub direct_remote : (r q : Remote) (d e : Drb) → Direct r d ≡ Direct q e → r ≡ q
 direct_remote r q d e h = cc
 
-direct_drb : (r q : Remote) (d e : Drb) → Direct r d ≡ Direct q e → d ≡ e
+pub direct_drb : (r q : Remote) (d e : Drb) → Direct r d ≡ Direct q e → d ≡ e
 direct_drb r q d e h = cc
 
 -- what is given to a direct port is a direct item of the port's bearer
@@ -150,6 +152,9 @@ module _ (g : Ghost) (v : View) (st : Stands g v) (side : Side) (port : PortName
     ports = ports_after g v st side port e is_open (way_from side) (Give tag bytes) tx e.rx moves.0 moves.1;
     spell = spell;
   }
+
+  pub given_more : (sender : Key → ItemSender) (wanted : Key → Bool) → KeepGiven g.ports (ghost sender wanted).ports
+  given_more sender wanted = given_after g v st side port e is_open (way_from side) (Give tag bytes) tx e.rx moves.0 moves.1
 
   same_spell : (m : ℕ) → m < n → spell m ≡ g.spell m
   same_spell m lt = put_other of_number g.spell n bytes m (below_not m n lt)

@@ -6,6 +6,7 @@ use Rattle.item_law.specs.Steps.{Step}
 use Rattle.item_law.specs.World.{Reaches, steps as happens}
 use Rattle.item_chain.specs.View.{View}
 use Rattle.item_chain.specs.Stands.{calm, Ghost, Stands, Goes, rests, steps, Refines}
+use Rattle.item_chain.proofs.Given.{given_same}
 
 -- a run and one step more
 pub reaches_on : (t : ItemTables) (old new : ItemChain) → Reaches t (calm old) → Step t old new → Reaches t (calm new)
@@ -26,4 +27,4 @@ goes_on first (steps more s) = steps (goes_on first more) s
 
 -- what changes nothing
 pub stays : (t : Contents) (g : Ghost) (v w : View) → w ≡ v → Stands g v → Refines t g w
-stays t g v w same st = record { ghost = g; goes = rests; stands = subst (Stands g) (sym same) st }
+stays t g v w same st = record { ghost = g; goes = rests; given = given_same g.ports; stands = subst (Stands g) (sym same) st }

@@ -110,7 +110,7 @@ not_below m n le = elim (cases_Bool (nat_lt m n)) [
   | inr f ↦ f
 ]
 
-some_octets : (z : SnSize) (p : Pdcp) → 1 ≤ length (pdcp_bytes z p)
+pub some_octets : (z : SnSize) (p : Pdcp) → 1 ≤ length (pdcp_bytes z p)
 some_octets S12 (Sdu sn body) = omega arith
 some_octets S18 (Sdu sn body) = omega arith
 some_octets z (Report fmc map) = omega arith
@@ -126,7 +126,7 @@ no_fault b u body le =
     ∙ cond-false (srap_has_no_body bs) (Some faults.NoBody) None (not_below (length bs) 3 (omega (arith, le)))
 
 module _ (g : Ghost) (v : View) (st : Stands g v) (n : ℕ) (i : Item) (u : LocalId) (is : g.chain.items n ≡ Some i) (goal : i.goal ≡ ToRelay u) where
-  as_header : g.spell n ≡ srap_bytes (srap (i.key.drb.0 - 1) u.0 (pdcp_bytes (st.spelt n i is).row.pdcp (st.spelt n i is).pdu))
+  pub as_header : g.spell n ≡ srap_bytes (srap (i.key.drb.0 - 1) u.0 (pdcp_bytes (st.spelt n i is).row.pdcp (st.spelt n i is).pdu))
   as_header = (st.spelt n i is).its_bytes ∙ ap (λ (o : Goal). under (id_of o) i.key.drb (pdcp_bytes (st.spelt n i is).row.pdcp (st.spelt n i is).pdu)) goal
 
   -- the header of an item is that of its identity and its bearer

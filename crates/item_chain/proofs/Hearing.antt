@@ -21,7 +21,7 @@ use Rattle.item_place.specs.HopFits.{HopFits}
 use Rattle.item_place.proofs.Completing.{its_item, leaves}
 use Rattle.item_chain.specs.View.{View, is_side, put_at}
 use Rattle.item_chain.specs.Stands.{Ghost, Stands, rests, Refines}
-use Rattle.item_chain.proofs.Ports.{own, ports_after, port_moves}
+use Rattle.item_chain.proofs.Ports.{own, ports_after, port_moves, given_after}
 use Rattle.item_chain.proofs.Quiet.{SameSdus, same_fits, same_done, acknowledge_quiet}
 
 -- a side that hears a way has the receiver of that way's hop
@@ -62,6 +62,7 @@ module _ (g : Ghost) (v : View) (st : Stands g v) (way : Way) (name : PortName) 
     data_stays none = record {
       ghost = record g { ports = ports_after g v st (hearer_of way) name e is_open way (Deliver h.heard) tx rx h.behind h.moves };
       goes = rests;
+      given = given_after g v st (hearer_of way) name e is_open way (Deliver h.heard) tx rx h.behind h.moves;
       stands = port_moves g v st (hearer_of way) name e is_open way (Deliver h.heard) tx rx h.behind h.moves tt
           (same_fits g.spell before behind (g.layout.box (Link name way e.epoch)) same (old_fits way));
     }
@@ -101,5 +102,6 @@ module _ (g : Ghost) (v : View) (st : Stands g v) (way : Way) (name : PortName) 
   status_moves answer h = record {
     ghost = record g { ports = ports_after g v st (hearer_of way) name e is_open (flip way) (DeliverStatus h.heard) tx rx h.behind h.moves };
     goes = rests;
+    given = given_after g v st (hearer_of way) name e is_open (flip way) (DeliverStatus h.heard) tx rx h.behind h.moves;
     stands = status_stands answer h;
   }

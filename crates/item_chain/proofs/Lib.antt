@@ -1,6 +1,7 @@
 pub mod Puts
 pub mod Views
 pub mod Tags
+pub mod Given
 pub mod Ports
 pub mod Quiet
 pub mod Goings
@@ -30,6 +31,7 @@ pub mod Confirms
 pub mod Comes
 pub mod Starts
 pub mod OpenedNodes
+pub mod OpenedSides
 pub mod OpenedEnds
 pub mod Opened
 pub mod Submits
@@ -41,6 +43,7 @@ pub mod FeedsReport
 pub mod Feeds
 pub mod FeedsAll
 pub mod Runs
+pub mod Remembering
 pub mod Room
 pub mod FedKeys
 pub mod FedNodes

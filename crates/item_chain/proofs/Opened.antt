@@ -1,7 +1,7 @@
 -- A ghost stands for the chain that tables open: there are no items, and each port is at its start.
-use Rattle.std.proofs.Common.{◌≡◌, inl, inr, ℕ, ◌==◌, ◌<◌, Bool, true, false, cond, [], find, Option, Some, None, option_map, refl, sym, ◌∙◌, ap, subst, arith}
+use Rattle.std.proofs.Common.{◌≡◌, inl, inr, ℕ, ◌==◌, ◌<◌, Bool, true, false, cond, [], find, Option, Some, None, is_some, option_map, refl, sym, ◌∙◌, ap, subst, arith}
 use Rattle.std.specs.Option.{unwrap_or, option_and_then}
-use Rattle.std.proofs.lemmas.Bool.{cases_Bool, cond-true, cond-false, eqb-true}
+use Rattle.std.proofs.lemmas.Bool.{cases_Bool, cond-true, cond-false, eqb-true, false≢true}
 use Rattle.std.proofs.lemmas.Option.{none-some, same_Some}
 use Rattle.link_base.specs.declared.names.LocalId.{LocalId}
 use Rattle.link_base.specs.declared.names.Node.{Node as NodeKind}
@@ -20,11 +20,12 @@ use Rattle.rlc_model.specs.Sides.{Entity}
 use Rattle.rlc_law.specs.Ports.{Port, Ports, hop_of, start_port, IsSide, ReachesPort}
 use Rattle.rlc_law.specs.Sides.{HasSize, start_entity}
 use Rattle.node_model.specs.declared.parcel.Parcel.{Parcel}
-use Rattle.node_model.specs.Names.{NodeName, AtRemote, AtRelay, AtGnb, is_remote, node_of, owner}
+use Rattle.node_model.specs.Names.{NodeName, AtRemote, AtRelay, AtGnb, is_of, is_remote, node_of, owner}
 use Rattle.node_model.specs.Opening.{new_entity, all_attached, new_remote}
 use Rattle.node_model.specs.State.{PortSide, Node, side_at, slot_of, queue_of, entity_of, no_node, id_in}
-use Rattle.node_model.specs.Tables.{settings, has_remote}
+use Rattle.node_model.specs.Tables.{settings, has_remote, is_open_on}
 use Rattle.node_model.proofs.Finding.{find_map}
+use Rattle.node_model.proofs.Names.{remote_is}
 use Rattle.chain_model.specs.declared.plan.Plan.{Plan}
 use Rattle.chain_model.specs.Sizes.{port_size}
 use Rattle.chain_model.specs.State.{node_at, first_plan, opened}
@@ -34,7 +35,7 @@ use Rattle.chain_law.proofs.Applying.{start_is}
 use Rattle.chain_law.proofs.Opened.{side_new}
 use Rattle.chain_law.proofs.Members.{contained, found_any, any_found}
 use Rattle.book_law.specs.Past.{AreTables}
-use Rattle.item_law.specs.State.{ToDirect, ToRelay, Lost, Reserves}
+use Rattle.item_law.specs.State.{Goal, ToDirect, ToRelay, Lost, Reserves, is_over_relay}
 use Rattle.item_law.specs.State.{Chain as ItemChain, Path}
 use Rattle.item_law.specs.World.{Opens}
 use Rattle.item_place.specs.Places.{Station, Box, at}
@@ -42,6 +43,7 @@ use Rattle.item_place.specs.HopFits.{HopFits}
 use Rattle.item_chain.specs.View.{side_size, view}
 use Rattle.item_chain.specs.Stands.{item_tables, TablesGood, goal_of, IsParcel, RowFits, as_list, IsQueued, IsOpenBy, kind_at, closed, PlanFits, Ghost, Stands}
 use Rattle.item_chain.proofs.OpenedNodes.{IsFirstOn, side_begins, uu_opens, node_there, at_gnb, at_relay, at_remote, gnb_ids, gnb_agrees, remote_ids, remote_agrees}
+use Rattle.item_chain.proofs.OpenedSides.{both_there, side_open}
 use Rattle.item_chain.proofs.Starts.{start_reaches, start_size, start_fits, start_direct}
 use Rattle.item_chain.proofs.OpenedEnds.{first_sender, ends_fit}
 
@@ -98,6 +100,10 @@ module _ (t : Contents) where
       → s ≡ port_size t name
   size_new side name None is s e = absurd (none-some s e)
   size_new side name (Some row) is s e = sym (same_Some row.size s e) ∙ (side_new t (owner side name) name row is).size
+
+  sized : (o : Option PortSide) → is_some o ≡ true → is_some (option_map side_size o) ≡ true
+  sized None is = is
+  sized (Some s) is = refl
 
   nothing_stands : (a : Station) (k n : ℕ) → at empty_box k ≡ Some n → ⊥
   nothing_stands a k n e = none-some n e
@@ -168,6 +174,24 @@ module _ (t : Contents) where
         let row = any_found (λ (row : RemoteRow). is_remote r row.remote) t.remotes has in
         (first_plan row.0, find_map first_plan (λ (p : Plan). is_remote r p.remote) t.remotes ∙ ap (option_map first_plan) row.1)
 
+    -- a side on its remote's path is open
+    on_first : (r : Remote) (side : Side) (name : PortName) → is_of r name ≡ true → is_some ((view (opened t)).size side name) ≡ true → is_open_on (first_goal t r) name ≡ true
+        → is_some ((view (opened t)).entity side name) ≡ true
+    on_first r side name of sized on = by (side_at (node_at (opened t) (owner side name)) name) refl sized
+      where
+        goes : (name : PortName) → is_of r name ≡ true → (goal : Goal) → first_goal t r ≡ goal → is_open_on goal name ≡ true → IsFirstOn t name
+        goes (Direct q d) own ToDirect its is = ap (first_goal t) (sym (remote_is r q own)) ∙ its
+        goes (Pc5 q c) own (ToRelay id) its is = ap (λ (x : Remote). is_over_relay (first_goal t x)) (sym (remote_is r q own)) ∙ ap is_over_relay its
+        goes (Direct q d) own (ToRelay id) its is = absurd (false≢true is)
+        goes (Pc5 q c) own ToDirect its is = absurd (false≢true is)
+        goes (Uu c) own goal its is = tt
+
+        by : (o : Option PortSide) → side_at (node_at (opened t) (owner side name)) name ≡ o → is_some (option_map side_size o) ≡ true
+            → is_some (option_and_then entity_of (side_at (node_at (opened t) (owner side name)) name)) ≡ true
+        by None is there = absurd (false≢true there)
+        by (Some s) is there = ap (λ (o : Option PortSide). is_some (option_and_then entity_of o)) is
+            ∙ side_open t are.remotes_ascend (owner side name) name s (goes name of (first_goal t r) refl on) is
+
     pub opened_stands : Stands first_ghost (view (opened t))
     opened_stands = record {
       good = good;
@@ -203,13 +227,15 @@ module _ (t : Contents) where
             (empty_row (IsParcel t (λ n. None) (λ n. Lost) (λ n. [])));
         queues = λ q. subst (RowFits (IsQueued (IsParcel t (λ n. None) (λ n. Lost) (λ n. [])) q) empty_box) (sym (no_queue q (side_at (node_at (opened t) AtRelay) q) refl))
             (empty_row (IsQueued (IsParcel t (λ n. None) (λ n. Lost) (λ n. [])) q));
-        own = λ q x is r of. absurd (none-some x (sym (no_slot q (side_at (node_at (opened t) AtRelay) q) refl) ∙ is));
+        own = λ q x is. absurd (none-some x (sym (no_slot q (side_at (node_at (opened t) AtRelay) q) refl) ∙ is));
       };
       paths = record { opens = opens_by; ids = ids; agree = agrees; plans = plans; listed = listed; lasts = lasts };
       openings = record {
         aired = λ ticket pdu on. absurd (nothing_there ticket pdu on);
         fresh = λ r side name of. omega arith;
         uus = λ side chan has. uu_opens t side chan has;
+        both = λ side name has. sized (side_at (node_at (opened t) (owner side name)) name) (both_there t are.remotes_ascend side name has);
+        on_path = λ r side name of there on. on_first r side name of there on;
         sizes = λ side name s is. size_new side name (side_at (node_at (opened t) (owner side name)) name) refl s is;
         nodes = λ r has kind. node_there t r has kind;
       };

@@ -1,5 +1,6 @@
 -- The line plan: the next plan of a remote opens, where its bearers have channels and its local identity is free.
-use Rattle.std.proofs.Common.{◌≡◌, inl, inr, ℕ, ◌+◌, ◌*◌, ◌≤◌, ◌==◌, ◌&&◌, ◌||◌, Bool, true, false, cond, not, List, Option, Some, None, is_some, option_map, refl, sym, ◌∙◌, ap, subst, arith}
+use Rattle.std.proofs.Common.{◌≡◌, inl, inr, ℕ, ◌+◌, ◌*◌, ◌≤◌, ◌==◌, ◌&&◌, ◌||◌, Bool, true, false, cond}
+use Rattle.std.proofs.Common.{not, List, Option, Some, None, is_some, option_map, refl, sym, ◌∙◌, ap, subst, arith}
 use Rattle.std.proofs.lemmas.Bool.{and_parts, and_from, eqb-true, eq-eqb, false≢true, true≢false}
 use Rattle.std.proofs.lemmas.Option.{none-some}
 use Rattle.link_base.specs.declared.names.Drb.{Drb}
@@ -20,7 +21,7 @@ use Rattle.script_text.specs.declared.event.Event.{Event}
 use Rattle.script_text.specs.declared.reply.Reply.{Reply}
 use Rattle.script_text.specs.declared.reply.Reply.TheVariants.{NoRemote, NoTable, PlanOpen, IdBusy}
 use Rattle.node_model.specs.Names.{is_of, is_remote}
-use Rattle.node_model.specs.Tables.{has_remote, has_path}
+use Rattle.node_model.specs.Tables.{has_remote, has_path, is_open_on}
 use Rattle.node_model.proofs.Finding.{find_passes}
 use Rattle.node_model.proofs.Names.{remote_is, remote_refl}
 use Rattle.chain_model.specs.declared.plan.Plan.{Plan}
@@ -39,9 +40,10 @@ use Rattle.item_chain.specs.Stands.{uu_of, row_of, item_tables, IsOpenBy, kind_a
 use Rattle.item_chain.proofs.FreeIds.{not_reserved, none_held}
 use Rattle.item_chain.proofs.Goings.{stays, one_step, reaches_on}
 use Rattle.item_chain.proofs.Receives.{some_is}
+use Rattle.item_chain.proofs.Given.{given_same}
 
 -- a plan that isn't refused: the tables have the remote, no plan of it is open, its bearers have channels, and the identity is at no place
-accepted : (c : Chain) (remote : Remote) (goal : Goal) → plan_refusal c remote goal ≡ None
+pub accepted : (c : Chain) (remote : Remote) (goal : Goal) → plan_refusal c remote goal ≡ None
     → (has_remote c.tables remote ≡ true) × (open_refusal (plan_at c remote) ≡ None) × (has_path c.tables remote goal ≡ true) × (busy_place c goal ≡ None)
 accepted c remote goal = go (has_remote c.tables remote) (open_refusal (plan_at c remote)) (has_path c.tables remote goal) (busy_place c goal)
   where
@@ -224,6 +226,9 @@ module _ (g : Ghost) (old : Chain) (st : Stands g (view old)) (remote : Remote) 
       aired = st.openings.aired;
       fresh = λ r at name of. let e = epochs_stay r (kind_at at name) in omega (arith, st.openings.fresh r at name of, e);
       uus = st.openings.uus;
+      both = st.openings.both;
+      on_path = λ r at name of there on. st.openings.on_path r at name of there
+          (ap (λ (x : Goal). is_open_on x name) (sym (goals_stay r (kind_at at name))) ∙ on);
       sizes = st.openings.sizes;
       nodes = st.openings.nodes;
     };
@@ -246,7 +251,12 @@ module _ (g : Ghost) (old : Chain) (st : Stands g (view old)) (remote : Remote) 
   }
 
   pub plan_opens : Refines old.tables g (view new)
-  plan_opens = record { ghost = record g { chain = planned g.chain remote goal }; goes = one_step T g.chain (planned g.chain remote goal) step; stands = plan_stands }
+  plan_opens = record {
+    ghost = record g { chain = planned g.chain remote goal };
+    goes = one_step T g.chain (planned g.chain remote goal) step;
+    given = given_same g.ports;
+    stands = plan_stands;
+  }
 
 pub plan_refines : (g : Ghost) (old : Chain) → Stands g (view old) → (remote : Remote) (goal : Goal) (events : List Event) (reply : Reply) (new : Chain)
     → Unless (plan_refusal old remote goal) old events reply new (Plans old remote goal events reply new)

@@ -1,5 +1,5 @@
 -- One port moves as a side of it is called: the other ports, the sides and the air are as before.
-use Rattle.std.proofs.Common.{◌≡◌, ◌⊎◌, inl, inr, ℕ, Bool, true, List, [], ◌∷◌, ◌++◌, Option, Some, None, is_some, refl, sym, ◌∙◌, ap, subst}
+use Rattle.std.proofs.Common.{◌≡◌, ◌⊎◌, inl, inr, ℕ, Bool, true, List, [], ◌∷◌, ◌++◌, Option, Some, None, is_some, refl, sym, ◌∙◌, ap, subst, append-nil}
 use Rattle.std.proofs.lemmas.Bool.{false≢true}
 use Rattle.std.proofs.lemmas.Option.{none-some, same_Some}
 use Rattle.link_base.specs.declared.names.PortName.{PortName}
@@ -24,9 +24,10 @@ use Rattle.item_law.proofs.base.Puts.{of_number, of_way, cases_same}
 use Rattle.item_place.specs.Places.{Station, Link, Box}
 use Rattle.item_place.specs.HopFits.{HopFits}
 use Rattle.item_chain.specs.View.{View, is_side, put_at}
-use Rattle.item_chain.specs.Stands.{FitsDirect, IsOpenBy, kind_at, PathsFit, OpeningsFit, Ghost, Stands}
+use Rattle.item_chain.specs.Stands.{FitsDirect, IsOpenBy, kind_at, PathsFit, OpeningsFit, Ghost, Stands, KeepGiven}
 use Rattle.item_chain.proofs.Tags.{IsQuiet, quiet_tags, direct_tx}
 use Rattle.item_chain.proofs.Puts.{of_side, of_port, at_all, at_changes, cases_both}
+use Rattle.item_chain.proofs.Given.{hop_keeps}
 
 -- a way is one way or the other
 pub other_way : (w v : Way) → (w ≡ v → ⊥) → w ≡ flip v
@@ -93,6 +94,26 @@ module _ (g : Ghost) (v : View) (st : Stands g v) (at : Side) (name : PortName) 
       | inr ne ↦ inr (ne, sym (called.1.others n f ne) ∙ is)
     ]
 
+    -- hops keep what they were given
+    pub given_after : KeepGiven g.ports ports_after
+    given_after n f p is = elim (cases_both of_port of_number name n e.epoch f) [
+      | inr ne ↦ (p, called.1.others n f ne ∙ is, λ w. ([], sym (append-nil (hop_of p w).given)))
+      | inl same ↦
+          let its : p ≡ own.0 = same_Some p own.0 (sym is ∙ ap (λ (n : PortName). g.ports n f) same.0 ∙ ap (g.ports name) same.1 ∙ own.1) in (
+            behind,
+            ap (λ (n : PortName). ports_after n f) same.0 ∙ ap (ports_after name) same.1 ∙ called.1.here,
+            λ w. subst (λ (p : Port). (more : List (List ℕ)) × ((hop_of behind w).given ≡ (hop_of p w).given ++ more)) (sym its) (by_way w),
+          )
+    ]
+      where
+        by_way : (w : Way) → (more : List (List ℕ)) × ((hop_of behind w).given ≡ (hop_of own.0 w).given ++ more)
+        by_way w = elim (cases_same of_way w way) [
+          | inl here ↦ subst (λ (w : Way). (more : List (List ℕ)) × ((hop_of behind w).given ≡ (hop_of own.0 w).given ++ more)) (sym here)
+              (hop_keeps (hop_of own.0 way) event (hop_of behind way) moves.moves.happens)
+          | inr ne ↦ subst (λ (w : Way). (more : List (List ℕ)) × ((hop_of behind w).given ≡ (hop_of own.0 w).given ++ more)) (sym (other_way w way ne))
+              ([], ap (λ (h : Hop). h.given) moves.moves.other ∙ sym (append-nil (hop_of own.0 (flip way)).given))
+        ]
+
     pub unopened_after : (n : PortName) (f : ℕ) → ports_after n f ≡ None → g.ports n f ≡ None
     unopened_after n f none = elim (cases_both of_port of_number name n e.epoch f) [
       | inl same ↦ absurd (none-some behind (sym none ∙ ap (λ (n : PortName). ports_after n f) same.0 ∙ ap (ports_after name) same.1 ∙ called.1.here))
@@ -157,13 +178,18 @@ module _ (g : Ghost) (v : View) (st : Stands g v) (at : Side) (name : PortName) 
       | inr ne ↦ (was.0, called.1.others n f ne ∙ was.1)
     ]
 
+    -- a side that was open still is
+    still_open : (b : Side) (q : PortName) → is_some (v.entity b q) ≡ true → is_some (entities_after b q) ≡ true
+    still_open = at_all of_side of_port v.entity at name (Some entity_after) (λ b q x. is_some (v.entity b q) ≡ true → is_some x ≡ true) (λ was. refl) (λ b q ne was. was)
+
     openings_with : (air : List (Option Pdu)) → ((ticket : ℕ) (pdu : Pdu) → on_air air ticket ≡ Some pdu → (p : Port) × (g.ports pdu.port pdu.epoch ≡ Some p))
         → OpeningsFit v.tables g.chain.path ports_after g.epochs air entities_after v.size v.there
     openings_with air aired = record {
       aired = λ ticket pdu on. still_opened pdu.port pdu.epoch (aired ticket pdu on);
       fresh = st.openings.fresh;
-      uus = λ b chan has. at_all of_side of_port v.entity at name (Some entity_after) (λ b q x. is_some (v.entity b q) ≡ true → is_some x ≡ true)
-          (λ was. refl) (λ b q ne was. was) b (Uu chan) (st.openings.uus b chan has);
+      uus = λ b chan has. still_open b (Uu chan) (st.openings.uus b chan has);
+      both = st.openings.both;
+      on_path = λ r b q of there on. still_open b q (st.openings.on_path r b q of there on);
       sizes = st.openings.sizes;
       nodes = st.openings.nodes;
     }

@@ -40,10 +40,12 @@ use Rattle.item_place.specs.Places.{Station, Link, Ingress, Egress, Box, at, mov
 use Rattle.item_place.specs.HopFits.{HopFits}
 use Rattle.item_place.proofs.Moving.{moves_on, queue_of as spot_in_queue}
 use Rattle.item_chain.specs.View.{View, view, is_side, put_at}
-use Rattle.item_chain.specs.Stands.{id_of, BearIds, FitsDirect, routed_for, egress_of, IsParcel, RowFits, as_list, IsQueued, IsLongEnough, IsOpenBy, kind_at, item_tables, Ghost, Stands, Refines}
+use Rattle.item_chain.specs.Stands.{id_of, BearIds, FitsDirect, routed_for, egress_of, IsParcel, RowFits, as_list}
+use Rattle.item_chain.specs.Stands.{IsQueued, IsLongEnough, IsOpenBy, kind_at, item_tables, Ghost, Stands, Refines}
 use Rattle.item_chain.proofs.Puts.{of_port}
 use Rattle.item_chain.proofs.Views.{same_node, relay_set}
-use Rattle.item_chain.proofs.Ports.{own, ports_after, sides_after, air_after, unopened_after, hops_after, directs_after, paths_after, openings_after, link_port, link_epoch}
+use Rattle.item_chain.proofs.Ports.{own, ports_after, sides_after, air_after, unopened_after, hops_after}
+use Rattle.item_chain.proofs.Ports.{directs_after, paths_after, openings_after, link_port, link_epoch, given_after}
 use Rattle.item_chain.proofs.Quiet.{given_fits}
 use Rattle.item_chain.proofs.Rows.{front, row_pop, row_from, row_other, box_to, box_other, parcel_keeps}
 use Rattle.item_chain.proofs.Pushes.{egress_is, put_kept, ingress_egress, link_ingress, link_egress}
@@ -168,6 +170,7 @@ module _ (g : Ghost) (v : View) (st : Stands g v) (side : Side) (port : PortName
           ports_after g v st side port e is_open (way_from side) (Give tag x.sdu) tx e.rx moves.0 moves.1;
     };
     goes = one_step (item_tables v.tables) g.chain after (pull n r at_queue refl);
+    given = given_after g v st side port e is_open (way_from side) (Give tag x.sdu) tx e.rx moves.0 moves.1;
     stands = record {
       good = st.good;
       reaches = reaches_on (item_tables v.tables) g.chain after st.reaches (pull n r at_queue refl);

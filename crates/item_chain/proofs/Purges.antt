@@ -27,7 +27,7 @@ use Rattle.item_place.specs.Places.{Station, Link, Ingress, Egress, Box, at, emp
 use Rattle.item_place.proofs.Emptying.{emptied_on}
 use Rattle.item_place.proofs.Moving.{slot_of as spot_in_slot, queue_of as spot_in_queue}
 use Rattle.item_chain.specs.View.{View, view}
-use Rattle.item_chain.specs.Stands.{routed_for, egress_of, IsParcel, RowFits, as_list, IsQueued, PlacesFit, Ghost, Stands, Refines}
+use Rattle.item_chain.specs.Stands.{routed_for, egress_of, IsParcel, RowFits, as_list, IsQueued, PlacesFit, Ghost, Stands, Refines, IsOfSlot}
 use Rattle.item_chain.proofs.Applies.{behind, apply_refines, applies_by}
 use Rattle.item_chain.proofs.FirstHops.{row_remote}
 use Rattle.item_chain.proofs.FreeIds.{in_row, slot_is}
@@ -166,7 +166,7 @@ module _ (g : Ghost) (old : Chain) (st : Stands g (view old)) (remote : Remote) 
   -- in a slot that is purged it leads to the remote
   leads : (q : PortName) (x : Parcel) → v.slot q ≡ Some x → slot_goes q ≡ true → x.route.key.remote ≡ remote
   leads q x is purge = elim (cases_Bool (is_of remote q)) [
-    | inl of ↦ st.places.own q x is remote of
+    | inl of ↦ (st.places.own q x is).1 remote of
     | inr other ↦ sym (remote_is remote x.route.key.remote (sym (ap (leads_to remote) is) ∙ sym (ap (λ (b : Bool). b || leads_to remote (v.slot q)) other) ∙ purge))
   ]
 
@@ -245,9 +245,9 @@ module _ (g : Ghost) (old : Chain) (st : Stands g (view old)) (remote : Remote) 
   queues q false kept = row_map (IsQueued P q) (IsQueued Q q) (g.layout.box (Egress q)) (v.queue q) (st.places.queues q)
       (λ k n x here p. (p.0, keeps (Egress q) kept k n x here p.1))
 
-  owns : (q : PortName) (x : Parcel) (b : Bool) → cond b None (v.slot q) ≡ Some x → (r : Remote) → is_of r q ≡ true → x.route.key.remote ≡ r
-  owns q x true is r of = absurd (none-some x is)
-  owns q x false is r of = st.places.own q x is r of
+  owns : (q : PortName) (x : Parcel) (b : Bool) → cond b None (v.slot q) ≡ Some x → IsOfSlot q x
+  owns q x true is = absurd (none-some x is)
+  owns q x false is = st.places.own q x is
 
   places : PlacesFit Q layout.box (view now).slot (view now).queue
   places = record {

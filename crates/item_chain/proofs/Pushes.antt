@@ -1,6 +1,6 @@
 -- A push: the item in a slot goes to the end of a queue.
 use mathlib.Core.Path.{fun_ext}
-use Rattle.std.proofs.Common.{◌≡◌, inl, inr, ℕ, Bool, true, List, [], ◌∷◌, ◌++◌, Option, Some, None, refl, sym, ◌∙◌, ap, subst}
+use Rattle.std.proofs.Common.{◌≡◌, inl, inr, ℕ, Bool, List, [], ◌∷◌, ◌++◌, Option, Some, None, refl, sym, ◌∙◌, ap, subst}
 use Rattle.std.specs.Option.{unwrap_or, option_map, option_and_then}
 use Rattle.std.proofs.lemmas.Option.{none-some, same_Some}
 use Rattle.link_base.specs.declared.names.PortName.{PortName}
@@ -12,7 +12,7 @@ use Rattle.script_text.specs.declared.reply.Reply.{Reply}
 use Rattle.node_model.specs.declared.answers.PushReply.{PushReply}
 use Rattle.node_model.specs.declared.answers.PushReply.TheVariants as pushed
 use Rattle.node_model.specs.declared.parcel.Parcel.{Parcel}
-use Rattle.node_model.specs.Names.{AtRelay, is_port, is_of}
+use Rattle.node_model.specs.Names.{AtRelay, is_port}
 use Rattle.node_model.specs.State.{PortSide, Node, side_at, slot_of, queue_of, set_side}
 use Rattle.node_model.specs.Relaying.{Pushes, PushesPort}
 use Rattle.chain_model.specs.State.{Chain, node_at, set_node}
@@ -26,12 +26,13 @@ use Rattle.item_place.specs.Places.{Station, Link, Ingress, Egress, Box, at, mov
 use Rattle.item_place.specs.HopFits.{HopFits}
 use Rattle.item_place.proofs.Moving.{moves_on, slot_of as spot_in_slot}
 use Rattle.item_chain.specs.View.{View, view}
-use Rattle.item_chain.specs.Stands.{FitsDirect, routed_for, IsParcel, RowFits, as_list, IsQueued, item_tables, Ghost, Stands, Refines}
+use Rattle.item_chain.specs.Stands.{FitsDirect, routed_for, IsParcel, RowFits, as_list, IsQueued, item_tables, Ghost, Stands, Refines, IsOfSlot}
 use Rattle.item_chain.proofs.Puts.{of_port}
 use Rattle.item_chain.proofs.Views.{same_node, relay_side_set, set_twice, node_behind}
 use Rattle.item_chain.proofs.Rows.{front, row_pop, row_from, row_to, row_other, box_other, parcel_keeps, parcel_moves}
 use Rattle.item_chain.proofs.Tags.{direct_spot, standing}
 use Rattle.item_chain.proofs.Goings.{stays, one_step, reaches_on}
+use Rattle.item_chain.proofs.Given.{given_same}
 
 pub ingress_is : (p q : PortName) → Ingress p ≡ Ingress q → p ≡ q
 ingress_is p q e = cc
@@ -127,10 +128,10 @@ module _ (g : Ghost) (v : View) (st : Stands g v) (p : PortName) (x : Parcel) (f
         (Egress q) (v.queue q) (λ h. ingress_egress p q (sym h)) (λ h. ne (egress_is q e h)) (st.places.queues q))
   ]
 
-  owns : (q : PortName) (y : Parcel) → slot_after q ≡ Some y → (o : Remote) → is_of o q ≡ true → y.route.key.remote ≡ o
-  owns q y is o of = elim (cases_same of_port q p) [
+  owns : (q : PortName) (y : Parcel) → slot_after q ≡ Some y → IsOfSlot q y
+  owns q y is = elim (cases_same of_port q p) [
     | inl same ↦ absurd (none-some y (sym (ap slot_after same ∙ put_same of_port v.slot p None) ∙ is))
-    | inr ne ↦ st.places.own q y (sym (put_other of_port v.slot p None q ne) ∙ is) o of
+    | inr ne ↦ st.places.own q y (sym (put_other of_port v.slot p None q ne) ∙ is)
   ]
 
   -- it has not arrived
@@ -141,6 +142,7 @@ module _ (g : Ghost) (v : View) (st : Stands g v) (p : PortName) (x : Parcel) (f
   push_items = record {
     ghost = record g { chain = after; layout = record g.layout { box = box } };
     goes = one_step (item_tables v.tables) g.chain after (push n r at_slot refl);
+    given = given_same g.ports;
     stands = record {
       good = st.good;
       reaches = reaches_on (item_tables v.tables) g.chain after st.reaches (push n r at_slot refl);

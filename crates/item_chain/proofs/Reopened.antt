@@ -1,5 +1,5 @@
 -- Sides of a remote's ports at a node are opened anew in an epoch to which they hadn't come, or closed.
-use Rattle.std.proofs.Common.{◌≡◌, ◌⊎◌, inl, inr, ℕ, ◌+◌, ◌==◌, ◌<◌, ◌≤◌, ◌&&◌, Bool, true, false, cond, List, Option, Some, None, refl, sym, ◌∙◌, ap, subst, arith}
+use Rattle.std.proofs.Common.{◌≡◌, ◌⊎◌, inl, inr, ℕ, ◌+◌, ◌==◌, ◌<◌, ◌≤◌, ◌&&◌, Bool, true, false, cond, List, [], Option, Some, None, refl, sym, ◌∙◌, ap, subst, append-nil, arith}
 use Rattle.std.specs.Option.{unwrap_or}
 use Rattle.std.proofs.lemmas.Bool.{cases_Bool, cond-true, cond-false, and_parts, and_from, eq-eqb}
 use Rattle.std.proofs.lemmas.Option.{none-some, same_Some}
@@ -19,7 +19,7 @@ use Rattle.item_law.specs.State.{Spot}
 use Rattle.item_place.specs.Places.{Station, Link, Box}
 use Rattle.item_place.specs.HopFits.{HopFits}
 use Rattle.item_chain.specs.View.{View}
-use Rattle.item_chain.specs.Stands.{FitsDirect, Ghost, Stands}
+use Rattle.item_chain.specs.Stands.{FitsDirect, KeepGiven, Ghost, Stands}
 use Rattle.item_chain.proofs.Starts.{start_reaches, start_size, start_fits, start_direct}
 use Rattle.std.specs.Prelude.{length}
 
@@ -74,6 +74,9 @@ module _ (g : Ghost) (v : View) (st : Stands g v) (remote : Remote) (x : NodeNam
     | inl was ↦ old name f p was
     | inr start ↦ subst (P name f) (sym start.1) (new name f start.0)
   ]
+
+  pub given_now : KeepGiven g.ports ports_now
+  given_now name f p is = (p, port_stays name f p is, λ w. ([], sym (append-nil (hop_of p w).given)))
 
   pub unopened_now : (name : PortName) (f : ℕ) → ports_now name f ≡ None → g.ports name f ≡ None
   unopened_now name f none = elim (cases_found (g.ports name f)) [

@@ -20,9 +20,10 @@ use Rattle.item_chain.specs.Stands.{item_tables, TablesGood, Ghost, Stands, Refi
 use Rattle.item_chain.specs.Laws.{IsItemLine, OpenedChainsStand}
 use Rattle.item_chain.specs.Runs.{StepsGoByItemSteps, IsRunLine, AreRunLines, IsReachedByItems, PastsStand, RunsStand}
 use Rattle.item_chain.proofs.Goings.{goes_on, stays}
+use Rattle.item_chain.proofs.Given.{given_on}
 
 -- a line of a run that does something is an item line
-item_line : (old : Chain) (line : Line) (own : List Event) (reply : Reply) (mid : Chain) → Does old line own reply mid → IsRunLine line → IsItemLine line
+pub item_line : (old : Chain) (line : Line) (own : List Event) (reply : Reply) (mid : Chain) → Does old line own reply mid → IsRunLine line → IsItemLine line
 item_line old (Submit key sdu) own reply mid does is = is refl
 item_line old (Grant port way octets) own reply mid does is = is refl
 item_line old (Deliver ticket) own reply mid does is = is refl
@@ -47,7 +48,12 @@ module _ (steps_go : StepsGoByItemSteps) (opens : OpenedChainsStand) (t : Conten
   line_goes old e new tables is (steps s) r =
       let more = subst (λ (u : Contents). Refines u r.ghost (view new)) tables
       (steps_go r.ghost old r.stands e.line e.events e.reply new (item_line old e.line s.own e.reply s.mid s.does is) s) in
-      record { ghost = more.ghost; goes = goes_on r.goes more.goes; stands = more.stands }
+      record {
+        ghost = more.ghost;
+        goes = goes_on r.goes more.goes;
+        given = given_on begun.0.ports r.ghost.ports more.ghost.ports r.given more.given;
+        stands = more.stands;
+      }
   line_goes old e new tables is (drained line none same whole) r = subst (λ (c : Chain). Refines t begun.0 (view c)) (sym same) r
   line_goes old e new tables is (ended line none says same) r = subst (λ (c : Chain). Refines t begun.0 (view c)) (sym same) r
 

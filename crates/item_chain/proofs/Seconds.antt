@@ -108,7 +108,7 @@ module _ (g : Ghost) (v : View) (st : Stands g v) (e : Entity) (number : ℕ) (b
     abbrev k : ℕ
     k = n g v st Ul (Uu c) e is_open number bytes tx rx x sdu h
 
-    gnb_item : (i : Item) × (a.items k ≡ Some i) × IsSecondHop v.tables i (a.spot k) Ul (Uu c) e.epoch
+    pub gnb_item : (i : Item) × (a.items k ≡ Some i) × IsSecondHop v.tables i (a.spot k) Ul (Uu c) e.epoch
     gnb_item =
         let was = st.layout.stands (Link (Uu c) Ul e.epoch) x k (stood g v st Ul (Uu c) e is_open number bytes tx rx x sdu h) in
         (was.0, was.1, second_of v.tables was.0 (a.spot k) e.epoch (Uu c) Ul (λ r d. uu_direct c r d) (λ r d w s. pc5_uu r d c (sym s)) (λ u w s. ul_dl w) was.2)
@@ -202,7 +202,7 @@ module _ (g : Ghost) (v : View) (st : Stands g v) (e : Entity) (number : ℕ) (b
     abbrev m : ℕ
     m = n g v st Dl (Pc5 r c) e is_open number bytes tx rx x sdu h
 
-    remote_item : (i : Item) × (a.items m ≡ Some i) × IsSecondHop v.tables i (a.spot m) Dl (Pc5 r c) e.epoch
+    pub remote_item : (i : Item) × (a.items m ≡ Some i) × IsSecondHop v.tables i (a.spot m) Dl (Pc5 r c) e.epoch
     remote_item =
         let was = st.layout.stands (Link (Pc5 r c) Dl e.epoch) x m (stood g v st Dl (Pc5 r c) e is_open number bytes tx rx x sdu h) in
         (was.0, was.1, second_of v.tables was.0 (a.spot m) e.epoch (Pc5 r c) Dl (λ q d. pc5_direct r q c d) (λ q d w s. ul_dl (sym w)) (λ u w s. pc5_uu r c u s) was.2)

@@ -84,7 +84,7 @@ module _ (g : Ghost) (v : View) (st : Stands g v) (e : Entity) (number : ℕ) (b
         ))
         (subst (λ (w : Way). RelayRoutes (item_tables v.tables) g.chain i w q) (sym f.way) (own, here, record { chan = row.uu; is = ap (option_map uu_of) has }))
         refl)
-        (λ r of. maps.of_remote ∙ sym (remote_is r q of))
+        (refl, λ r of. maps.of_remote ∙ sym (remote_is r q of))
         (record {
           item = i;
           is = is;
@@ -138,7 +138,7 @@ module _ (g : Ghost) (v : View) (st : Stands g v) (e : Entity) (number : ℕ) (b
           },
         ))
         refl)
-        (λ r of. absurd (false≢true of))
+        (refl, λ r of. absurd (false≢true of))
         (record {
           item = i;
           is = is;

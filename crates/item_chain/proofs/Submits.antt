@@ -1,5 +1,6 @@
 -- The line submit: a sender accepts an SDU, and so does that of its items.
-use Rattle.std.proofs.Common.{◌≡◌, ◌⊎◌, ◌↔◌, inl, inr, ℕ, zero, suc, ◌+◌, ◌==◌, ◌<◌, ◌≤◌, Bool, true, false, cond, not, nat_lt, nat_le, List, [], ◌∷◌, ◌++◌, length, get_or, Option, Some, None, is_none, refl, sym, ◌∙◌, ap, subst, arith}
+use Rattle.std.proofs.Common.{◌≡◌, ◌⊎◌, ◌↔◌, inl, inr, ℕ, zero, suc, ◌+◌, ◌==◌, ◌<◌, ◌≤◌, Bool, true, false, cond, not, nat_lt}
+use Rattle.std.proofs.Common.{nat_le, List, [], ◌∷◌, ◌++◌, length, get_or, Option, Some, None, is_none, refl, sym, ◌∙◌, ap, subst, arith}
 use Rattle.std.specs.Option.{unwrap_or}
 use Rattle.std.proofs.lemmas.Bool.{cases_Bool, eqb-false, leb-false, ltb-false, ltb-true, false≢true, true≢false}
 use Rattle.std.proofs.lemmas.List.{get_or_append_left, length_push}
@@ -34,6 +35,7 @@ use Rattle.item_chain.proofs.Goings.{stays, one_step, reaches_on}
 use Rattle.item_chain.proofs.Receives.{some_is}
 use Rattle.item_chain.proofs.Views.{outgoing_set}
 use Rattle.item_chain.proofs.Wants.{bearer_row}
+use Rattle.item_chain.proofs.Given.{given_same}
 
 -- what is refused by none of two
 passed : {X : Type 0} (b : Bool) (x : X) (rest : Option X) → cond b (Some x) rest ≡ None → (b ≡ false) × (rest ≡ None)
@@ -191,7 +193,12 @@ submit_refines g old st key sdu events reply new does = elim (cases_Bool (has_be
         ap view is ∙ ap (λ (x : Outgoing). view (set_node old (set_outgoing (node_at old (source key)) (record x { sender = accepts x.sender sdu })))) same_out
         ∙ outgoing_set old (source key) new_out o (ap (outgoing_at (node_at old (source key))) f.named ∙ out.1)
         ∙ ap (λ (x : Key). record (view old) { outgoing = put_at is_node is_key (view old).outgoing (source key) x (Some new_out) }) f.named in
-        record { ghost = record g { chain = chain }; goes = one_step T g.chain chain step; stands = subst (Stands (record g { chain = chain })) (sym seen) behind }
+        record {
+          ghost = record g { chain = chain };
+          goes = one_step T g.chain chain step;
+          given = given_same g.ports;
+          stands = subst (Stands (record g { chain = chain })) (sym seen) behind;
+        }
 
     by_fault : (fault : Option SubmitFault) → submit_fault (sender_at old key) sdu ≡ fault → (b : BearerRow) × (row_of old.tables key.remote key.drb ≡ Some b)
         → Submits fault old key sdu events reply new → Refines old.tables g (view new)

@@ -1,7 +1,7 @@
 -- What a chain shows once a node has applied a plan.
 use Rattle.std.proofs.Common.{◌≡◌, inl, inr, ◌&&◌, Bool, true, false, cond, List, map, find, Option, Some, None, is_some, option_map, refl, sym, ◌∙◌, ap}
 use Rattle.std.specs.Option.{unwrap_or, option_and_then}
-use Rattle.std.proofs.lemmas.Bool.{cases_Bool, cond-true, cond-false, and_from}
+use Rattle.std.proofs.lemmas.Bool.{cases_Bool, cond-true, cond-false, and_from, false≢true, true≢false}
 use Rattle.std.proofs.lemmas.Option.{none-some, same_Some}
 use Rattle.link_base.specs.declared.names.Key.{Key}
 use Rattle.link_base.specs.declared.names.Node.{Node as NodeKind}
@@ -29,7 +29,7 @@ use Rattle.chain_law.proofs.Nodes.{side_name}
 use Rattle.item_chain.specs.View.{side_size, view}
 use Rattle.item_chain.specs.Stands.{Ghost, Stands}
 use Rattle.item_chain.proofs.Receives.{some_is}
-use Rattle.item_chain.proofs.Reopened.{EntityWas, reopened, kept}
+use Rattle.item_chain.proofs.Reopened.{is_turned, EntityWas, reopened, kept}
 use Rattle.item_chain.proofs.Views.{there_kept}
 
 -- what is found of items that were changed, but for what the test sees
@@ -153,6 +153,35 @@ module _ (old : Chain) (remote : Remote) (kind : NodeKind) (plan : Plan) (there 
       by : (o : Option PortSide) → side_at (node_at old (owner at name)) name ≡ o → option_and_then entity_of (option_map turned o) ≡ option_and_then entity_of o
       by None is = refl
       by (Some s) is = cond-false (is_of remote s.name) _ s.entity (ap (is_of remote) (sym (side_name (node_at old (owner at name)) name s is)) ∙ of)
+
+  -- so is one at another node
+  pub same_unturned : (at : Side) (name : PortName) → is_turned remote x at name ≡ false → (view new).entity at name ≡ (view old).entity at name
+  same_unturned at name other = elim (cases_node (owner at name) x) [
+    | inr ne ↦ ap (option_and_then entity_of) (sides_there (owner at name) name ne)
+    | inl here ↦ same_entity at name (by (is_of remote name) (ap (is_node x) here ∙ node_refl x) other)
+  ]
+    where
+      by : (b : Bool) → is_node x (owner at name) ≡ true → (b && is_node x (owner at name)) ≡ false → b ≡ false
+      by true own e = absurd (true≢false (sym own ∙ e))
+      by false own e = refl
+
+  -- a side of the remote that is on the plan's path is open
+  pub turned_open : (at : Side) (name : PortName) → owner at name ≡ x → is_of remote name ≡ true → is_open_on plan.goal name ≡ true
+      → is_some ((view new).size at name) ≡ true
+      → is_some ((view new).entity at name) ≡ true
+  turned_open at name here of on there = by (side_at (node_at old (owner at name)) name) refl
+    where
+      row : (view new).entity at name ≡ option_and_then entity_of (option_map turned (side_at (node_at old (owner at name)) name))
+      row = ap (option_and_then entity_of) (sides_here (owner at name) name here)
+
+      by : (o : Option PortSide) → side_at (node_at old (owner at name)) name ≡ o → is_some ((view new).entity at name) ≡ true
+      by None is = absurd (false≢true (ap (λ (o : Option PortSide). is_some (option_map side_size o)) (sym is)
+          ∙ ap (λ (o : Option SnSize). is_some o) (sym (same_size at name)) ∙ there))
+      by (Some s) is =
+          let its_name : name ≡ s.name = side_name (node_at old (owner at name)) name s is in
+          ap (λ (o : Option Entity). is_some o) (row ∙ ap (λ (o : Option PortSide). option_and_then entity_of (option_map turned o)) is
+          ∙ cond-true (is_of remote s.name) _ s.entity (ap (is_of remote) (sym its_name) ∙ of)
+          ∙ cond-true (is_open_on plan.goal s.name) _ None (ap (is_open_on plan.goal) (sym its_name) ∙ on))
 
   pub same_there : (y : NodeName) → (view new).there y ≡ (view old).there y
   same_there y = by still ∙ there_kept old applied y

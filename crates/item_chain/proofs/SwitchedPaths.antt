@@ -1,5 +1,6 @@
 -- Paths once a node has applied a plan: its sides are open and it attaches as they say, and ports can be opened anew again.
-use Rattle.std.proofs.Common.{◌≡◌, ◌⊎◌, inl, inr, ℕ, ◌+◌, ◌≤◌, Bool, true, false, cond, not, List, [], ◌∷◌, ◌++◌, filter, Option, Some, None, is_some, refl, sym, ◌∙◌, ap, subst, arith}
+use Rattle.std.proofs.Common.{◌≡◌, ◌⊎◌, inl, inr, ℕ, ◌+◌, ◌≤◌, Bool, true, false, cond, not, List, []}
+use Rattle.std.proofs.Common.{◌∷◌, ◌++◌, filter, Option, Some, None, is_some, refl, sym, ◌∙◌, ap, subst, arith}
 use Rattle.std.proofs.lemmas.Bool.{cases_Bool, cond-true, cond-false, and_parts, and_from, false≢true, true≢false}
 use Rattle.std.proofs.lemmas.Option.{none-some}
 use Rattle.link_base.specs.declared.names.Goal.{Goal}
@@ -11,6 +12,7 @@ use Rattle.link_base.specs.declared.names.PortName.{PortName}
 use Rattle.link_base.specs.declared.names.PortName.TheVariants.{Direct, Pc5, Uu}
 use Rattle.link_base.specs.declared.names.Remote.{Remote}
 use Rattle.link_base.specs.declared.names.Side.{Side}
+use Rattle.link_base.specs.declared.names.SnSize.{SnSize}
 use Rattle.bearer_map.specs.declared.ids.Attachment.{Attachment}
 use Rattle.bearer_map.specs.Ids.{attachment, IsAttached}
 use Rattle.rlc_model.specs.Sides.{Entity}
@@ -39,7 +41,7 @@ use Rattle.item_chain.specs.Stands.{goal_of, id_of, IsOpenBy, kind_at, PlanFits,
 use Rattle.item_chain.proofs.Plans.{open_by}
 use Rattle.item_chain.proofs.Reopened.{is_turned, EntityWas, reopened, kept, epochs_now, ports_now, aired_now}
 use Rattle.item_chain.proofs.SwitchedItems.{path_next, next_path, epoch_here, goal_here, epoch_there, goal_there}
-use Rattle.item_chain.proofs.SwitchedNodes.{x, applied, new, entity_was, same_size, same_entity, same_there, attached_here, attached_there}
+use Rattle.item_chain.proofs.SwitchedNodes.{x, applied, new, entity_was, same_size, same_entity, same_unturned, turned_open, same_there, attached_here, attached_there}
 use Rattle.chain_model.specs.Places.{find_node}
 
 ---- attachments
@@ -339,12 +341,32 @@ module _ (g : Ghost) (old : Chain) (st : Stands g (view old)) (remote : Remote) 
         omega (arith, same, its)
   ]
 
+  is_sized : (at : Side) (name : PortName) → is_some ((view c).size at name) ≡ is_some ((view old).size at name)
+  is_sized at name = ap (λ (o : Option SnSize). is_some o) (same_size old remote kind plan there still at name)
+
+  on_path : (r : Remote) (at : Side) (name : PortName) → is_of r name ≡ true → is_some ((view c).size at name) ≡ true
+      → is_open_on (goal_at (new_path r) (kind_at at name)) name ≡ true → is_some ((view c).entity at name) ≡ true
+  on_path r at name of sized on = elim (cases_Bool (is_turned remote y at name)) [
+    | inr other ↦
+        let goal = (at_there r (kind_at at name) (not_turned at name other r of)).1 in
+        ap (λ (o : Option Entity). is_some o) (same_unturned old remote kind plan there still at name other)
+        ∙ st.openings.on_path r at name of (sym (is_sized at name) ∙ sized) (ap (λ (x : Goal). is_open_on x name) (sym goal) ∙ on)
+    | inl turned ↦
+        let k = turned_kind at name turned in
+        let goal : goal_at (new_path r) (kind_at at name) ≡ plan.goal = ap (λ (r : Remote). goal_at (new_path r) (kind_at at name)) (one_remote r remote name of k.0)
+        ∙ ap (goal_at (new_path remote)) k.1 ∙ at_here.1 in
+        turned_open old remote kind plan there still at name (sym (node_is y (owner at name) (and_parts _ _ turned).1)) k.0
+        (ap (λ (x : Goal). is_open_on x name) (sym goal) ∙ on) sized
+  ]
+
   pub openings_fit : OpeningsFit old.tables new_path (ports_now g (view old) st remote y plan.epoch (is_open_on plan.goal) (view c).entity)
       (epochs_now g (view old) st remote y plan.epoch (is_open_on plan.goal) (view c).entity) old.air (view c).entity (view c).size (view c).there
   openings_fit = record {
     aired = aired_now g (view old) st remote y plan.epoch (is_open_on plan.goal) (view c).entity;
     fresh = fresh;
     uus = λ at chan has. ap (λ (o : Option Entity). is_some o) (same_entity old remote kind plan there still at (Uu chan) refl) ∙ st.openings.uus at chan has;
+    both = λ at name has. is_sized at name ∙ st.openings.both at name has;
+    on_path = on_path;
     sizes = λ at name s is. st.openings.sizes at name s (sym (same_size old remote kind plan there still at name) ∙ is);
     nodes = λ r has k. same_there old remote kind plan there still (node_of k r) ∙ st.openings.nodes r has k;
   }

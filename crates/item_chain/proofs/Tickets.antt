@@ -12,6 +12,7 @@ use Rattle.item_chain.specs.View.{View, view}
 use Rattle.item_chain.specs.Stands.{Ghost, Stands, rests, Refines}
 use Rattle.item_chain.proofs.Calls.{unless}
 use Rattle.item_chain.proofs.Goings.{stays}
+use Rattle.item_chain.proofs.Given.{given_same}
 
 -- another air that has what ports have made
 pub air_stands : (g : Ghost) (v : View) (air : List (Option Pdu)) → Stands g v → PortsFit g.ports air
@@ -34,6 +35,8 @@ air_stands g v air st fits was = record {
     aired = λ ticket pdu on. st.openings.aired ticket pdu (was ticket pdu on);
     fresh = st.openings.fresh;
     uus = st.openings.uus;
+    both = st.openings.both;
+    on_path = st.openings.on_path;
     sizes = st.openings.sizes;
     nodes = st.openings.nodes;
   };
@@ -52,6 +55,7 @@ loses_refines g old st None ticket events reply new does = stays old.tables g (v
 loses_refines g old st (Some pdu) ticket events reply new does = record {
   ghost = g;
   goes = rests;
+  given = given_same g.ports;
   stands =
       subst (λ (c : Chain). Stands g (view c)) (sym does.2) (lost g (view old) ticket st);
 }

@@ -21,6 +21,7 @@ use Rattle.item_chain.proofs.Ends.{incoming_same}
 use Rattle.item_chain.proofs.Goings.{stays}
 use Rattle.item_chain.proofs.Receives.{some_is}
 use Rattle.item_chain.proofs.Views.{incoming_set}
+use Rattle.item_chain.proofs.Given.{given_same}
 
 any_find : {T : Type 0} (test : T → Bool) (xs : List T) → list_any test xs ≡ true → is_some (find test xs) ≡ true
 any_find test [] e = absurd (false≢true e)
@@ -89,6 +90,7 @@ wants_refines g old st key events reply new does = elim (cases_Bool (has_bearer 
         record {
           ghost = g;
           goes = rests;
+          given = given_same g.ports;
           stands = subst (Stands g)
               (ap (λ (k : Key). record (view old) { incoming = put_at is_node is_key (view old).incoming (sink key) k (Some now) }) (sym f.named)
               ∙ sym (incoming_set old (sink key) now i.0 here)

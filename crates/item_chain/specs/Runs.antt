@@ -1,7 +1,10 @@
 -- What runs do to a chain is what steps of items do, from a chain without items on.
-use Rattle.std.specs.Prelude.{◌≡◌, List}
+use Rattle.std.specs.Prelude.{◌≡◌, ℕ, List, ◌∷◌, map, slice_get, Some}
 use Rattle.std.specs.List.{AllByRecursion}
 use Rattle.link_base.specs.declared.names.Key.{Key}
+use Rattle.link_base.specs.declared.names.PortName.{PortName}
+use Rattle.link_base.specs.declared.names.Way.{Way}
+use Rattle.rlc_law.specs.Ports.{Port, hop_of}
 use Rattle.script_text.specs.declared.event.Event.{Event}
 use Rattle.script_text.specs.declared.line.Line.{Line}
 use Rattle.script_text.specs.declared.line.Line.TheVariants.{Drain, End}
@@ -11,6 +14,8 @@ use Rattle.script_text.specs.declared.stage.ScriptStage.{ScriptStage}
 use Rattle.script_text.specs.History.{Entry}
 use Rattle.script_text.specs.Lines.{part_of}
 use Rattle.node_model.specs.State.{Node}
+use Rattle.chain_model.specs.Draining.{Moment}
+use Rattle.chain_model.specs.OneCopy.{WasKept}
 use Rattle.chain_model.specs.State.{Chain, opened}
 use Rattle.chain_model.specs.Steps.{FeedsAll, Step}
 use Rattle.chain_model.specs.Runs.{Turn, entries, LeadsTo}
@@ -59,3 +64,26 @@ PastsStand = (h : List Entry) (c : Chain) → IsPast h c → AreRunLines h → T
 -- so they do behind each such run of a script
 abbrev pub RunsStand : Type 0
 RunsStand = (h : List Turn) (stage : ScriptStage) (c : Chain) → LeadsTo h stage c → AreRunLines (entries h) → TablesGood c.tables → IsReachedByItems c
+
+-- the chain before a line
+abbrev pub before_of : Moment → Chain
+before_of m = m.before
+
+-- the chain behind lines, and the chains before them
+abbrev pub chains : List Moment → Chain → List Chain
+chains moments c = c ∷ map before_of moments
+
+-- what a transmitter kept in some chain of a run, the hop of the ghost's port in that epoch was given under the same number
+abbrev pub Remembers : List Chain → Ghost → Type 0
+Remembers past g = (port : PortName) (way : Way) (epoch number : ℕ) (sdu : List ℕ) → WasKept past port way epoch number sdu
+    → (its : Port) × (g.ports port epoch ≡ Some its) × (slice_get (hop_of its way).given number ≡ Some sdu)
+
+-- a ghost stands for the chain that remembers what was kept
+pub record IsRemembered (past : List Chain) (c : Chain) : Type 0 where
+  pub ghost : Ghost
+  pub stands : Stands ghost (view c)
+  pub remembers : Remembers past ghost
+
+-- so one does in each such run, behind each of its lines
+abbrev pub PastsAreRemembered : Type 0
+PastsAreRemembered = (h : List Entry) (c : Chain) (past : IsPast h c) → AreRunLines h → TablesGood c.tables → IsRemembered (chains past.moments c) c

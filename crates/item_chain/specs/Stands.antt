@@ -1,5 +1,6 @@
 -- What a chain of items has to do with a chain whose view is this: its items are the SDUs there.
-use Rattle.std.specs.Prelude.{◌≡◌, ◌↔◌, ℕ, ◌+◌, ◌%◌, ◌<◌, ◌≤◌, ◌==◌, ◌&&◌, Bool, true, false, List, [], ◌∷◌, length, slice_get, slice_index_or, find, Option, Some, None, is_some, option_map, Contains}
+use Rattle.std.specs.Prelude.{◌≡◌, ◌↔◌, ℕ, ◌+◌, ◌%◌, ◌<◌, ◌≤◌, ◌==◌, ◌&&◌, Bool, true, false, List}
+use Rattle.std.specs.Prelude.{[], ◌∷◌, ◌++◌, length, slice_get, slice_index_or, find, Option, Some, None, is_some, option_map, Contains}
 use Rattle.std.specs.List.{list_any}
 use Rattle.link_base.specs.declared.limits.TheConstants.{COUNT_END, LONGEST_RLC_SDU}
 use Rattle.link_base.specs.declared.names.Chan.{Chan}
@@ -21,6 +22,7 @@ use Rattle.link_base.specs.SequenceNumbers.{modulus, most_unconfirmed}
 use Rattle.bearer_map.specs.declared.ids.Attachment.{Attachment}
 use Rattle.bearer_map.specs.declared.rows.BearerRow.{BearerRow}
 use Rattle.bearer_map.specs.declared.rows.MapRow.{MapRow}
+use Rattle.bearer_map.specs.declared.rows.Pc5Row.{Pc5Row}
 use Rattle.bearer_map.specs.declared.rows.UuRow.{UuRow}
 use Rattle.bearer_map.specs.Contents.{Contents}
 use Rattle.bearer_map.specs.Ids.{IsAttached}
@@ -36,15 +38,17 @@ use Rattle.rlc_law.specs.Sides.{Epochs, SidesFit}
 use Rattle.node_model.specs.declared.parcel.Parcel.{Parcel}
 use Rattle.node_model.specs.Names.{NodeName, is_remote, is_of, node_of, owner, source, sink}
 use Rattle.node_model.specs.State.{Incoming, Outgoing, id_in}
-use Rattle.node_model.specs.Tables.{has_remote, map_row, first_count}
+use Rattle.node_model.specs.Tables.{has_remote, map_row, first_count, is_open_on}
 use Rattle.node_model.specs.Feeding.{under}
 use Rattle.node_model.specs.Relaying.{ue_of}
 use Rattle.chain_model.specs.declared.plan.Plan.{Plan}
+use Rattle.chain_model.specs.Bursts.{way_in}
 use Rattle.chain_model.specs.Plans.{is_open}
 use Rattle.chain_model.specs.Sizes.{port_size}
 use Rattle.chain_model.specs.Told.{first_goal, kind_of}
 use Rattle.chain_law.specs.Entities.{port_settings}
-use Rattle.item_law.specs.State.{Item, Sdu, Content, Data, Report, Spot, OnFirstHop, InSlot, InQueue, OnSecondHop, Arrived, Lost, Path, way_of, has_applied, goal_at, epoch_at, is_over_relay, Reserves, TablesFit}
+use Rattle.item_law.specs.State.{Item, Sdu, Content, Data, Report, Spot, OnFirstHop, InSlot, InQueue, OnSecondHop}
+use Rattle.item_law.specs.State.{Arrived, Lost, Path, way_of, has_applied, goal_at, epoch_at, is_over_relay, Reserves, TablesFit}
 use Rattle.item_law.specs.State.{Tables as ItemTables, Chain as ItemChain, Sender as ItemSender, sink as sink_kind}
 use Rattle.item_law.specs.Steps.{Step}
 use Rattle.item_law.specs.World.{World, Reaches}
@@ -77,6 +81,12 @@ item_tables t = record {
 -- the tables have this Uu channel
 abbrev pub has_uu : Contents → Chan → Bool
 has_uu t chan = list_any (λ (row : UuRow). chan.0 == row.chan.0) t.uus
+
+-- the tables have this port: a direct or a PC5 port of one of their remotes, or a Uu port
+abbrev pub has_port : Contents → PortName → Bool
+has_port t (Direct remote drb) = has_remote t remote && is_some (row_of t remote drb)
+has_port t (Pc5 remote chan) = has_remote t remote && list_any (λ (row : Pc5Row). is_remote remote row.remote && (chan.0 == row.chan.0)) t.pc5s
+has_port t (Uu chan) = has_uu t chan
 
 -- what is asked of tables: identities are of one remote, and the bearers of a remote that begins on the relay have rows; the identity of a bearer is from 1
 -- to 32; a bearer has one row of channels, whose Uu channel the tables have, and rows of channels have no identities above 32
@@ -162,11 +172,15 @@ as_list (Some x) = x ∷ []
 abbrev pub IsQueued : (Parcel → ℕ → Type 0) → PortName → Parcel → ℕ → Type 0
 IsQueued P p x n = (x.route.egress ≡ p) × P x n
 
--- slots and queues are rows of boxes, and the SDU in the slot of a remote's port was routed for this remote
+-- the SDU in a port's slot goes on in the way in which it came over the port, and in the slot of a remote's own port it was routed for this remote
+abbrev pub IsOfSlot : PortName → Parcel → Type 0
+IsOfSlot p x = (x.route.key.way ≡ way_in p) × ((remote : Remote) → is_of remote p ≡ true → x.route.key.remote ≡ remote)
+
+-- slots and queues are rows of boxes, and what is in a slot is of the slot
 pub record PlacesFit (P : Parcel → ℕ → Type 0) (box : Station → Box) (slot : PortName → Option Parcel) (queue : PortName → List Parcel) : Type 0 where
   pub slots : (p : PortName) → RowFits P (box (Ingress p)) (as_list (slot p))
   pub queues : (p : PortName) → RowFits (IsQueued P p) (box (Egress p)) (queue p)
-  pub own : (p : PortName) (x : Parcel) → slot p ≡ Some x → (remote : Remote) → is_of remote p ≡ true → x.route.key.remote ≡ remote
+  pub own : (p : PortName) (x : Parcel) → slot p ≡ Some x → IsOfSlot p x
 
 -- the tag of a data PDU has its key and its COUNT, that of a status report no COUNT
 abbrev pub IsTag : Contents → Key → Content → Tag → Type 0
@@ -217,13 +231,17 @@ pub record PathsFit (t : Contents) (path : Remote → Path) (entity : Side → P
   pub listed : (remote : Remote) (id : LocalId) → Reserves (path remote) id → has_remote t remote ≡ true
   pub lasts : (remote : Remote) → has_remote t remote ≡ true → (p : Plan) × (plan remote ≡ Some p)
 
--- each PDU on the air is of a port that was opened; a remote's ports were opened up to its epoch; the sides of the tables' Uu ports are open; each side has
--- the size of its port; and the nodes of each remote of the tables are there
+-- each PDU on the air is of a port that was opened; a remote's ports were opened up to its epoch; both sides of the tables' ports are there, those of Uu ports open,
+-- and a side of a remote's port wherever the node has the remote on the port's path; each side has the size of its port; and the nodes of each remote of the tables
+-- are there
 pub record OpeningsFit (t : Contents) (path : Remote → Path) (ports : Ports) (epochs : Epochs) (air : List (Option Pdu)) (entity : Side → PortName → Option Entity)
     (size : Side → PortName → Option SnSize) (there : NodeName → Bool) : Type 0 where
   pub aired : (ticket : ℕ) (pdu : Pdu) → on_air air ticket ≡ Some pdu → (port : Port) × (ports pdu.port pdu.epoch ≡ Some port)
   pub fresh : (remote : Remote) (at : Side) (name : PortName) → is_of remote name ≡ true → epochs at name ≤ epoch_at (path remote) (kind_at at name) + 1
   pub uus : (at : Side) (chan : Chan) → has_uu t chan ≡ true → is_some (entity at (Uu chan)) ≡ true
+  pub both : (at : Side) (name : PortName) → has_port t name ≡ true → is_some (size at name) ≡ true
+  pub on_path : (remote : Remote) (at : Side) (name : PortName) → is_of remote name ≡ true → is_some (size at name) ≡ true
+      → is_open_on (goal_at (path remote) (kind_at at name)) name ≡ true → is_some (entity at name) ≡ true
   pub sizes : (at : Side) (name : PortName) (s : SnSize) → size at name ≡ Some s → s ≡ port_size t name
   pub nodes : (remote : Remote) → has_remote t remote ≡ true → (kind : NodeKind) → there (node_of kind remote) ≡ true
 
@@ -312,8 +330,14 @@ pub data Goes (t : ItemTables) (s : ItemChain) : ItemChain → Type 0 where
   rests : Goes t s s
   steps : {mid new : ItemChain} → Goes t s mid → Step t mid new → Goes t s new
 
--- a ghost goes on by steps of its items to one that stands for a chain of this view
+-- the ports that were opened are there, and their hops have at the front what they were given before
+abbrev pub KeepGiven : Ports → Ports → Type 0
+KeepGiven old new = (name : PortName) (epoch : ℕ) (port : Port) → old name epoch ≡ Some port
+    → (now : Port) × (new name epoch ≡ Some now) × ((way : Way) → (more : List (List ℕ)) × ((hop_of now way).given ≡ (hop_of port way).given ++ more))
+
+-- a ghost goes on by steps of its items, and keeps what its hops were given, to one that stands for a chain of this view
 pub record Refines (t : Contents) (g : Ghost) (v : View) : Type 0 where
   pub ghost : Ghost
   pub goes : Goes (item_tables t) g.chain ghost.chain
+  pub given : KeepGiven g.ports ghost.ports
   pub stands : Stands ghost v

@@ -1,6 +1,6 @@
 // The laws of runs.
 ghost use Rattle.item_chain.specs.Fed.{ReportsTellAll};
-ghost use Rattle.item_chain.specs.Runs.{FeedingGoesByItemSteps, StepsGoByItemSteps, PastsStand, RunsStand};
+ghost use Rattle.item_chain.specs.Runs.{FeedingGoesByItemSteps, StepsGoByItemSteps, PastsStand, PastsAreRemembered, RunsStand};
 
 use crate::foundations::laws_of_runs;
 use crate::laws::{lines_go_by_item_steps, opened_chains_stand};
@@ -22,9 +22,12 @@ pub fn steps_go_by_item_steps()
 }
 
 /// A law: in each run over good tables whose lines are such ones, drains among them, a ghost stands for the chain behind each
-/// line, to which steps of items have led from the ghost without items that stands for the chain that the tables open.
+/// line, to which steps of items have led from the ghost without items that stands for the chain that the tables open. One does
+/// that remembers what transmitters kept, also where their sides are closed by now: the hop of a port in an epoch was given, under
+/// its number, whatever SDU its transmitter had behind some line.
 pub fn runs_stand()
     ensures lines { PastsStand }
+    ensures memory { PastsAreRemembered }
     ensures runs { RunsStand }
 {
     laws_of_runs();

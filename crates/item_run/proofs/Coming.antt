@@ -11,6 +11,7 @@ use Rattle.link_base.specs.declared.names.Remote.{Remote}
 use Rattle.link_base.specs.declared.names.Way.{Way}
 use Rattle.link_base.specs.declared.names.Way.TheVariants.{Ul, Dl}
 use Rattle.link_base.specs.declared.rlc_words.Tag.{Tag}
+use Rattle.pdcp_pdu.specs.Pdcp.{pdcp_bytes}
 use Rattle.rlc_model.specs.declared.hop.HopHeard.{HopHeard}
 use Rattle.rlc_model.specs.declared.hop.HopHeard.TheVariants.{Amd, Status}
 use Rattle.rlc_model.specs.declared.hop.Pdu.{Pdu}
@@ -31,7 +32,8 @@ use Rattle.chain_model.specs.Draining.{Moment}
 use Rattle.chain_model.specs.Lines.{hearer}
 use Rattle.chain_model.specs.State.{Chain, node_at}
 use Rattle.bearer_map.specs.Contents.{Contents}
-use Rattle.item_law.specs.State.{Spot}
+use Rattle.item_law.specs.Live.{Live}
+use Rattle.item_law.specs.State.{Item, Spot, way_of}
 use Rattle.book_law.specs.Hearings.{EntityHears, CompletesPdcp}
 use Rattle.item_chain.specs.View.{View, view}
 use Rattle.item_chain.specs.Stands.{Ghost, Stands}
@@ -45,10 +47,28 @@ use Rattle.item_chain.proofs.Ports.{own}
 use Rattle.item_chain.proofs.Seconds.{gnb_header, gnb_takes, remote_header, remote_takes}
 use Rattle.item_chain.proofs.Taken.{Taken}
 
--- an item arrives for a key of this node as this PDCP PDU
+-- an item is live for a key as this PDCP PDU
+pub record IsFor (g : Ghost) (v : View) (st : Stands g v) (number : ℕ) (key : Key) (pdu : List ℕ) : Type 0 where
+  pub item : Item
+  pub its : g.chain.items number ≡ Some item
+  pub remote : item.key.remote ≡ key.remote
+  pub drb : item.key.drb ≡ key.drb
+  pub way : way_of item ≡ key.way
+  pub live : Live g.chain number item
+  pub spelled : pdu ≡ pdcp_bytes (st.spelt number item its).row.pdcp (st.spelt number item its).pdu
+
+-- it is so for a key of this node
 pub record Came (g : Ghost) (v : View) (st : Stands g v) (name : NodeName) (key : Key) (pdu : List ℕ) : Type 0 where
   pub number : ℕ
-  pub taken : Taken g v st number name key pdu
+  pub its : IsFor g v st number key pdu
+  pub home : name ≡ sink key
+
+came_of : (g : Ghost) (v : View) (st : Stands g v) (number : ℕ) (name : NodeName) (key : Key) (pdu : List ℕ) → Taken g v st number name key pdu → Came g v st name key pdu
+came_of g v st number name key pdu x = record {
+  number = number;
+  its = record { item = x.item; its = x.its; remote = x.remote; drb = x.drb; way = x.way; live = x.live; spelled = x.spelled };
+  home = x.home;
+}
 
 target_key : (a b : Key) (x y : List ℕ) → (let t : Result Target Discard = Ok (ToPdcp a x) in t) ≡ Ok (ToPdcp b y) → a ≡ b
 target_key a b x y e = cc
@@ -82,12 +102,10 @@ module _ (g : Ghost) (c : Chain) (st : Stands g (view c)) (ticket epoch number :
       let m = n g (view c) st w (Direct r d) may.entity opened number bytes tx rx k whole h in
       let name : NodeName = owner (hearer_of w) (Direct r d) in
       let its_key : key ≡ key_of r d w = target_key key _ body whole leads ∙ ap (key_of r d) (hears_way w) in
-      record {
-        number = m;
-        taken = subst (λ (x : Key). Taken g (view c) st m name x body) (sym its_key)
-            (subst (Taken g (view c) st m name (key_of r d w)) (sym (target_body key _ body whole leads))
-            (direct_takes g (view c) st may.entity number bytes tx rx k whole r d w opened h));
-      }
+      came_of g (view c) st m _ key body (
+      subst (λ (x : Key). Taken g (view c) st m name x body) (sym its_key)
+      (subst (Taken g (view c) st m name (key_of r d w)) (sym (target_body key _ body whole leads))
+      (direct_takes g (view c) st may.entity number bytes tx rx k whole r d w opened h)))
   came_over key body (Pc5 r ch) Ul on may k whole tx rx h (inl under) = absurd under.2
   came_over key body (Pc5 r ch) Ul on may k whole tx rx h (inr bad) = absurd (no_target bad.2)
     where
@@ -98,24 +116,20 @@ module _ (g : Ghost) (c : Chain) (st : Stands g (view c)) (ticket epoch number :
       let m = n g (view c) st Dl (Pc5 r ch) may.entity opened number bytes tx rx k whole h in
       let ends = under.2.2 in
       let route = ends.0 in
-      record {
-        number = m;
-        taken = subst (λ (x : Key). Taken g (view c) st m (AtRemote r) x body) (sym route.4)
-            (subst (Taken g (view c) st m (AtRemote r) _) (sym ends.1)
-            (remote_takes g (view c) st may.entity number bytes tx rx k whole r ch opened h under.0 under.1 under.2.0 under.2.1 route.1 route.0 route.2));
-      }
+      came_of g (view c) st m _ key body (
+      subst (λ (x : Key). Taken g (view c) st m (AtRemote r) x body) (sym route.4)
+      (subst (Taken g (view c) st m (AtRemote r) _) (sym ends.1)
+      (remote_takes g (view c) st may.entity number bytes tx rx k whole r ch opened h under.0 under.1 under.2.0 under.2.1 route.1 route.0 route.2)))
   came_over key body (Pc5 r ch) Dl on may k whole tx rx h (inr bad) = absurd
       (remote_header g (view c) st may.entity number bytes tx rx k whole r ch (its_open g c st ticket (pdu_of (Pc5 r ch) Dl) on may) h bad.0 bad.1)
   came_over key body (Uu ch) Ul on may k whole tx rx h (inl under) =
       let opened = its_open g c st ticket (pdu_of (Uu ch) Ul) on may in
       let m = n g (view c) st Ul (Uu ch) may.entity opened number bytes tx rx k whole h in
       let route = under.2.0 in
-      record {
-        number = m;
-        taken = subst (λ (x : Key). Taken g (view c) st m AtGnb x body) (sym route.5)
-            (subst (Taken g (view c) st m AtGnb _) (sym under.2.1)
-            (gnb_takes g (view c) st may.entity number bytes tx rx k whole ch opened h under.0 under.1 route.0 route.2 route.1 route.3 route.4));
-      }
+      came_of g (view c) st m _ key body (
+      subst (λ (x : Key). Taken g (view c) st m AtGnb x body) (sym route.5)
+      (subst (Taken g (view c) st m AtGnb _) (sym under.2.1)
+      (gnb_takes g (view c) st may.entity number bytes tx rx k whole ch opened h under.0 under.1 route.0 route.2 route.1 route.3 route.4)))
   came_over key body (Uu ch) Ul on may k whole tx rx h (inr bad) = absurd
       (gnb_header g (view c) st may.entity number bytes tx rx k whole ch (its_open g c st ticket (pdu_of (Uu ch) Ul) on may) h bad.0 bad.1)
   came_over key body (Uu ch) Dl on may k whole tx rx h (inl under) = absurd under.2

@@ -77,7 +77,7 @@ module _ (t : Contents) (are : AreDeclared t) where
   }
 
 -- before go nothing has happened to the chain that the tables open
-begins : (h : List Turn) (stage : ScriptStage) (c : Chain) → LeadsTo h stage c → is_past_go stage.part ≡ false → c ≡ opened (contents stage)
+pub begins : (h : List Turn) (stage : ScriptStage) (c : Chain) → LeadsTo h stage c → is_past_go stage.part ≡ false → c ≡ opened (contents stage)
 begins [] stage c leads not_yet = leads.1 ∙ ap (λ (s : ScriptStage). opened (contents s)) (sym leads.0)
 begins (t ∷ h) stage c leads not_yet = by (part_of t.entry.line) refl leads.4
   where

@@ -129,19 +129,19 @@ module _ (g : Ghost) (c : Chain) (st : Stands g (view c)) where
 
 module _ (l : PduLaws) (g : Ghost) (c : Chain) (st : Stands g (view c)) (name : NodeName) (key : Key) (pdu : List ℕ) (came : Came g (view c) st name key pdu) where
   abbrev pub i : Item
-  i = came.taken.item
+  i = came.its.item
 
   abbrev pub spelt : IsSpelt c.tables i (g.spell came.number)
-  spelt = st.spelt came.number i came.taken.its
+  spelt = st.spelt came.number i came.its.its
 
   abbrev pub bearer : BearerRow
   bearer = spelt.row
 
   pub its_row : row_of c.tables key.remote key.drb ≡ Some bearer
-  its_row = ap (λ (r : Remote). row_of c.tables r key.drb) (sym came.taken.remote) ∙ ap (row_of c.tables i.key.remote) (sym came.taken.drb) ∙ spelt.its_row
+  its_row = ap (λ (r : Remote). row_of c.tables r key.drb) (sym came.its.remote) ∙ ap (row_of c.tables i.key.remote) (sym came.its.drb) ∙ spelt.its_row
 
   pub spells : IsPdcp bearer.pdcp spelt.pdu pdu
-  spells = subst (IsPdcp bearer.pdcp spelt.pdu) (sym came.taken.spelled) (l.one_spelling.0 bearer.pdcp spelt.pdu spelt.fits).0
+  spells = subst (IsPdcp bearer.pdcp spelt.pdu) (sym came.its.spelled) (l.one_spelling.0 bearer.pdcp spelt.pdu spelt.fits).0
 
   -- what is read is what is spelt
   reads : (q : Pdcp) → IsPdcp (receiving_at c key).receiver.size q pdu → q ≡ spelt.pdu
@@ -154,6 +154,8 @@ module _ (l : PduLaws) (g : Ghost) (c : Chain) (st : Stands g (view c)) (name : 
     pub unheard : is_some (g.chain.heard key count) ≡ false
     pub few : count < (receiving_at c key).receiver.handed + most_unconfirmed bearer.pdcp
     pub its_sn : sn ≡ (first_count bearer key.way + count) % modulus bearer.pdcp
+    pub its_key : i.key ≡ key
+    pub content : i.content ≡ Data count body
 
   pub of_data : (sn : ℕ) (body : List ℕ) → IsPdcp (receiving_at c key).receiver.size (Sdu sn body) pdu → OfData sn body
   of_data sn body is = by i.content refl
@@ -165,12 +167,12 @@ module _ (l : PduLaws) (g : Ghost) (c : Chain) (st : Stands g (view c)) (name : 
       by (Data n y) content =
           let is_pdu = subst (λ (x : Content). IsPdu bearer i.key.way x spelt.pdu) content spelt.is_pdu in
           let same = reads (Sdu sn body) is ∙ is_pdu in
-          let its_key : i.key ≡ key = key_is i.key key came.taken.remote came.taken.drb (ap (way_with i.key.way) (sym content) ∙ came.taken.way) in
-          let unheard = live_unheard (item_tables c.tables) (calm g.chain) st.reaches came.number i n y refl came.taken.live content in
+          let its_key : i.key ≡ key = key_is i.key key came.its.remote came.its.drb (ap (way_with i.key.way) (sym content) ∙ came.its.way) in
+          let unheard = live_unheard (item_tables c.tables) (calm g.chain) st.reaches came.number i n y refl came.its.live content in
           let ups = hand_ups g c st key bearer its_row in
-          let win = live_in_window (item_tables c.tables) (calm g.chain) st.reaches came.number i n y ups.up refl came.taken.live content
+          let win = live_in_window (item_tables c.tables) (calm g.chain) st.reaches came.number i n y ups.up refl came.its.live content
           (subst (λ (k : Key). IsHandUp (g.chain.heard k) ups.up) (sym its_key) ups.is) in
-          let submitted = (its_keys g c st i.key).sdus came.number i n y (record { is = came.taken.its; key = refl }) content in
+          let submitted = (its_keys g c st i.key).sdus came.number i n y (record { is = came.its.its; key = refl }) content in
           record {
             count = n;
             submitted = subst (λ (k : Key). IsSubmitted (g.chain.sender k) n body) its_key
@@ -178,6 +180,8 @@ module _ (l : PduLaws) (g : Ghost) (c : Chain) (st : Stands g (view c)) (name : 
             unheard = ap (λ (k : Key). is_some (g.chain.heard k n)) (sym its_key) ∙ unheard;
             few = omega (arith, win.1, ups.long, ap row_limit spelt.its_row);
             its_sn = same_sn sn _ body y same ∙ ap (λ (k : Key). (first_count bearer k.way + n) % modulus bearer.pdcp) its_key;
+            its_key = its_key;
+            content = content ∙ ap (Data n) (sym (same_body sn _ body y same));
           }
 
   -- a status report tells of what was heard
@@ -192,13 +196,13 @@ module _ (l : PduLaws) (g : Ghost) (c : Chain) (st : Stands g (view c)) (name : 
       by (Report named) content =
           let r = subst (λ (x : Content). IsPdu bearer i.key.way x spelt.pdu) content spelt.is_pdu in
           let same = reads (ReportPdu fmc bits) is ∙ r.2 in
-          let its_way : i.key.way ≡ flip key.way = sym (flip_twice i.key.way) ∙ ap flip (ap (way_with i.key.way) (sym content) ∙ came.taken.way) in
-          let its_key : i.key ≡ back key = key_is i.key (back key) came.taken.remote came.taken.drb its_way in
+          let its_way : i.key.way ≡ flip key.way = sym (flip_twice i.key.way) ∙ ap flip (ap (way_with i.key.way) (sym content) ∙ came.its.way) in
+          let its_key : i.key ≡ back key = key_is i.key (back key) came.its.remote came.its.drb its_way in
           let named_it : named n ≡ true = r.3 n ∙ ap (λ (z : ℕ). is_reported z r.1 (first_count bearer i.key.way + n)) (sym (same_fmc fmc r.0 bits r.1 same))
           ∙ ap (λ (z : List ℕ). is_reported fmc z (first_count bearer i.key.way + n)) (sym (same_map fmc r.0 bits r.1 same))
           ∙ ap (λ (k : Key). is_reported fmc bits (first_count bearer k.way + n)) its_key ∙ says in
           ap (λ (k : Key). is_some (g.chain.heard k n)) (sym its_key)
-          ∙ (its_keys g c st i.key).named came.number i named n (record { is = came.taken.its; key = refl }) content named_it
+          ∙ (its_keys g c st i.key).named came.number i named n (record { is = came.its.its; key = refl }) content named_it
 
 module _ (l : PduLaws) (g : Ghost) (m : Moment) (st : Stands g (view m.before)) where
   abbrev c : Chain

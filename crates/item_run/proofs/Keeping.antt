@@ -1,7 +1,8 @@
 -- What stays along lines that switch no path, and what it says of the paths of items.
-use Rattle.std.proofs.Common.{◌≡◌, inl, inr, ℕ, ◌+◌, ◌==◌, ◌&&◌, cond, Bool, true, false, List, [], ◌∷◌, map, find, Option, Some, None, option_map, refl, sym, ◌∙◌, ap, subst, arith}
+use Rattle.std.proofs.Common.{◌≡◌, inl, inr, ℕ, ◌==◌, ◌&&◌, true, false, List, [], ◌∷◌, map, find, Option, Some, None, option_map, refl, sym, ◌∙◌, ap, arith}
 use Rattle.std.specs.Option.{unwrap_or}
 use Rattle.std.proofs.lemmas.Bool.{cases_Bool, cond-true, cond-false, true≢false, false≢true, eqb-true, eq-eqb, or_cases, and_parts}
+use Rattle.std.proofs.lemmas.Option.{none-some, same_Some}
 use Rattle.link_base.specs.declared.names.Drb.{Drb}
 use Rattle.link_base.specs.declared.names.Goal.TheVariants.{Direct as ToDirect}
 use Rattle.link_base.specs.declared.names.Node.{Node as NodeKind}
@@ -18,13 +19,14 @@ use Rattle.node_model.proofs.Finding.{each_found, find_map, find_passes}
 use Rattle.node_model.proofs.Names.{remote_is}
 use Rattle.chain_model.specs.declared.plan.Plan.{Plan}
 use Rattle.chain_model.specs.Draining.{Moment, entry_of}
+use Rattle.chain_model.specs.OneCopy.{HasNoPlan}
+use Rattle.chain_model.specs.Plans.{is_open}
 use Rattle.chain_model.specs.State.{Chain, opened, plan_at, first_plan}
 use Rattle.chain_model.specs.Told.{first_goal, goal_of}
 use Rattle.book_law.specs.Past.{Goes, steps, drained, ended, Passes, AreTables}
 use Rattle.heard_law.proofs.Knowing.{is_switch, plans_of, does_plans}
-use Rattle.heard_law.proofs.Still.{Still, still_same, still_on, still_fed, is_apply, does_still}
 use Rattle.direct_run_law.specs.Direct.{switches, NoneSwitches}
-use Rattle.item_law.specs.State.{Item, Path, goal_at, goal_in, epoch_at, applied_in}
+use Rattle.item_law.specs.State.{Item, Path, goal_at, goal_in}
 use Rattle.item_law.proofs.Inductive.{reaches_inv}
 use Rattle.item_chain.specs.View.{view}
 use Rattle.item_chain.specs.Stands.{row_of, item_tables, calm, PlanFits, opened as is_opened, closed as is_closed, Ghost, Stands}
@@ -34,33 +36,24 @@ no_switch (PlanLine remote goal) none = none
 no_switch (Apply remote kind) none = none
 no_switch line none = refl
 
-no_apply : (old mid : Chain) (line : Line) → switches line ≡ false → is_apply old mid line ≡ false
-no_apply old mid (Apply remote kind) none = none
-no_apply old mid line none = refl
+goes_keeps : (old : Chain) (e : Entry) (new : Chain) → switches e.line ≡ false → Goes old e new → new.plans ≡ old.plans
+goes_keeps old e new none (steps s) = ap plans_of s.is ∙ does_plans old s.mid e.line s.own e.reply (no_switch e.line none) s.does
+goes_keeps old e new none (drained line no_event is whole) = ap plans_of is
+goes_keeps old e new none (ended line no_event says is) = ap plans_of is
 
--- plans stay, and each node stands as before
-pub record Keeps (old new : Chain) : Type 0 where
-  pub plans : new.plans ≡ old.plans
-  pub still : Still old new
+-- plans stay as the tables opened them
+pub passes_keep : (t : Contents) (ms : List Moment) (c : Chain) → Passes t ms c → NoneSwitches (map entry_of ms) → c.plans ≡ (opened t).plans
+passes_keep t [] c is none = ap plans_of is
+passes_keep t (m ∷ ms) c (before, goes) (this, none) = goes_keeps m.before m.entry c this goes ∙ passes_keep t ms m.before before none
 
-keeps_same : (old new : Chain) → new ≡ old → Keeps old new
-keeps_same old new is = subst (Keeps old) (sym is) (record { plans = refl; still = still_same old old refl })
-
-goes_keeps : (old : Chain) (e : Entry) (new : Chain) → switches e.line ≡ false → Goes old e new → Keeps old new
-goes_keeps old e new none (steps s) = record {
-  plans = ap plans_of s.is ∙ does_plans old s.mid e.line s.own e.reply (no_switch e.line none) s.does;
-  still = subst (Still old) (sym s.is) (still_on old s.mid (record s.mid { nodes = s.nodes }) (does_still old s.mid e.line s.own e.reply (no_apply old s.mid e.line none) s.does)
-      (still_fed s.mid s.given s.nodes s.feeds));
-}
-goes_keeps old e new none (drained line no_event is whole) = keeps_same old new is
-goes_keeps old e new none (ended line no_event says is) = keeps_same old new is
-
-pub passes_keep : (t : Contents) (ms : List Moment) (c : Chain) → Passes t ms c → NoneSwitches (map entry_of ms) → Keeps (opened t) c
-passes_keep t [] c is none = keeps_same (opened t) c is
-passes_keep t (m ∷ ms) c (before, goes) (this, none) =
-    let first = passes_keep t ms m.before before none in
-    let then = goes_keeps m.before m.entry c this goes in
-    record { plans = then.plans ∙ first.plans; still = still_on (opened t) m.before c first.still then.still }
+-- no plan is open where plans are as at first
+pub none_open : (t : Contents) (c : Chain) → c.plans ≡ (opened t).plans → (r : Remote) → HasNoPlan c r
+none_open t c plans r p is = by (find (λ (row : RemoteRow). is_remote r row.remote) t.remotes)
+    (sym (find_map first_plan (λ (p : Plan). is_remote r p.remote) t.remotes) ∙ sym (ap (find (λ (p : Plan). is_remote r p.remote)) plans) ∙ is)
+  where
+    by : (o : Option RemoteRow) → option_map first_plan o ≡ Some p → is_open p ≡ false
+    by None found = absurd (none-some p found)
+    by (Some row) found = ap is_open (sym (same_Some (first_plan row) p found))
 
 -- the remote of a bearer has a row
 row_found : (r : Remote) (rows : List RemoteRow) → has_row remote_rank rows r.0 ≡ true → (row : RemoteRow) × (find (λ (row : RemoteRow). is_remote r row.remote) rows ≡ Some row)
@@ -108,13 +101,12 @@ module _ (t : Contents) (are : AreTables t) (g : Ghost) (c : Chain) (st : Stands
         plan = plan;
       }
 
-  -- each item was given on its remote's path, which it has at each node
+  -- each item was given on its remote's path, which its remote has at each node
   pub record IsSteadyItem (n : ℕ) (i : Item) : Type 0 where
     pub path : IsSteady t g.chain.path i.key.remote
     pub epoch : i.epoch ≡ 0
     pub goal : i.goal ≡ (g.chain.path i.key.remote).goal
     pub goals : (nd : NodeKind) → goal_at (g.chain.path i.key.remote) nd ≡ i.goal
-    pub epochs : (nd : NodeKind) → epoch_at (g.chain.path i.key.remote) nd ≡ 0
 
   pub steady_item : (n : ℕ) (i : Item) → g.chain.items n ≡ Some i → IsSteadyItem n i
   steady_item n i is = record {
@@ -122,7 +114,6 @@ module _ (t : Contents) (are : AreTables t) (g : Ghost) (c : Chain) (st : Stands
     epoch = epoch;
     goal = goal;
     goals = λ nd. ap (λ o. goal_in (g.chain.path i.key.remote).goal o nd) path.plan ∙ sym goal;
-    epochs = λ nd. ap (λ (b : Bool). cond b ((g.chain.path i.key.remote).epoch + 1) (g.chain.path i.key.remote).epoch) (ap (λ o. applied_in o nd) path.plan) ∙ path.epoch;
   }
     where
       spelt : row_of c.tables i.key.remote i.key.drb ≡ Some (st.spelt n i is).row

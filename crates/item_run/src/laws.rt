@@ -3,6 +3,7 @@ ghost use Rattle.item_run.specs.Laws.{StandingLinesAreHonest, DeclaredTablesAreG
 ghost use Rattle.item_run.specs.Laws.{IsHonestRun, KeepsBooks, HasSoundReplies, HandsUpAllWhenQuiet};
 
 use crate::foundations::{laws_of_books, laws_of_pdus, laws_of_tables};
+use crate::switching_laws::settled_keys_hand_up_all;
 use item_chain::runs_stand;
 
 /// A law: where a ghost stands for the chain before a line, the line is honest to both keys of each bearer: a receiving end hears
@@ -49,12 +50,10 @@ pub fn replies_that_never_come()
 }
 
 /// A law: where no line of such a run switches a path, and the chain is quiet behind it, each bearer has handed up in both ways all
-/// that was submitted: nothing is on its way any more, and what was given and isn't on its way was heard.
+/// that was submitted: no plan is open.
 pub fn quiet_runs_hand_up_all()
     ensures { OfStandingRuns HandsUpAllWhenQuiet }
 {
-    laws_of_pdus();
     laws_of_books();
-    laws_of_tables();
-    runs_stand();
+    settled_keys_hand_up_all();
 }

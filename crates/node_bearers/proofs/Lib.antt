@@ -3,4 +3,5 @@ pub mod Found
 pub mod Heard
 pub mod Opening
 pub mod Searches
+pub mod Switched
 pub mod Table

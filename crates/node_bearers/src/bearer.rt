@@ -33,6 +33,7 @@ pub(crate) struct Bearer {
 impl Bearer {
     ghost use Rattle.node_bearers.specs.Bearer.{new_bearer, incoming_of, confirms_count};
     ghost use Rattle.node_bearers.specs.Hearing.{HearsAt, IsNews};
+    ghost use Rattle.node_bearers.specs.Switching.{bearer_after, bearer_closed};
 
     /// A bearer of which nothing was sent or received, at the end that sends in this way.
     pub(crate) fn new(alloc: Global, row: BearerRow, sends: Way) -> Result<Self, Memory>
@@ -89,6 +90,28 @@ impl Bearer {
     {
         if self.tx.first() <= count && count < self.tx.tx_next() {
             self.tx.confirm(count);
+        }
+    }
+
+    /// This end has applied a plan of a remote. Where the bearer is the remote's, its sender waits for a status report, and
+    /// reports are held back (TS 38.323 clause 5.1.2).
+    pub(crate) fn apply(&mut self, remote: Remote)
+        ensures { self.new ≡ bearer_after remote self.old }
+    {
+        if self.remote.0 == remote.0 {
+            self.tx.begin_wait();
+            self.wanted = false;
+            self.held_back = true;
+        }
+    }
+
+    /// All nodes have applied a plan of a remote. Where the bearer is the remote's, a status report is wanted.
+    pub(crate) fn finish(&mut self, remote: Remote)
+        ensures { self.new ≡ bearer_closed remote self.old }
+    {
+        if self.remote.0 == remote.0 {
+            self.wanted = true;
+            self.held_back = false;
         }
     }
 

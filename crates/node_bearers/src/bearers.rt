@@ -14,10 +14,13 @@ ghost use Rattle.node_model.specs.State.{outgoing, incoming, outgoing_at, incomi
 ghost use Rattle.node_model.specs.Ends.{HearsPdcp, confirm_count};
 ghost use Rattle.node_model.specs.Feeding.{in_key, out_key};
 ghost use Rattle.node_model.specs.Opening.{new_remote, new_gnb};
+ghost use Rattle.node_model.specs.Switching.{node_closed};
+ghost use Rattle.node_bearers.specs.Switching.{ends_after};
 ghost use Rattle.node_bearers.specs.Calls.{ends_alone, HasCounts, HaveCounts, Submits, confirm_each, is_wanted, is_of_bearer, Sends, Receives, Gives, gave_report};
 
 use crate::bearer::Bearer;
 use crate::search::{place_of, place_with, rank_of};
+use crate::switching;
 use bearer_map::{BearerRow, Tables};
 use link_base::{Bytes, Drb, Key, Memory, Remote, Tag, Way};
 use node_model::NodeHeard;
@@ -155,6 +158,21 @@ impl Bearers {
         };
         let bearer = &mut self.rows[place];
         bearer.wanted = true;
+    }
+
+    /// This end has applied a plan of a remote. The senders of the remote's bearers wait for a status report, and no report
+    /// about them is given until all nodes have applied the plan (TS 38.323 clause 5.1.2). It takes no memory.
+    pub fn apply(&mut self, remote: Remote)
+        ensures { self.new ≡ ends_after remote self.old }
+    {
+        switching::apply(&mut self.rows, remote);
+    }
+
+    /// All nodes have applied a plan of a remote: status reports about the remote's bearers are wanted. It takes no memory.
+    pub fn finish(&mut self, remote: Remote)
+        ensures { self.new ≡ node_closed remote self.old }
+    {
+        switching::finish(&mut self.rows, remote);
     }
 
     /// How many SDUs of a key that is sent here were accepted first and are all confirmed.

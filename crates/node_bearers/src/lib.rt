@@ -5,6 +5,7 @@
 mod bearer;
 mod bearers;
 mod search;
+mod switching;
 
 pub use bearer::back;
 pub use bearers::Bearers;

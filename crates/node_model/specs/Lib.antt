@@ -9,6 +9,7 @@ pub mod Hearing
 pub mod Feeding
 pub mod Relaying
 pub mod Switching
+pub mod Standing
 pub mod Rows
 pub mod Laws
 pub mod Places

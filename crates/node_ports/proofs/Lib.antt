@@ -4,3 +4,5 @@ pub mod Places
 pub mod Steps
 mod Ordered
 pub mod Opened
+mod Applied
+mod Bearing

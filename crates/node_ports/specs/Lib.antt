@@ -3,3 +3,4 @@ pub mod Sides
 pub mod Order
 pub mod Table
 pub mod Calls
+pub mod Switching

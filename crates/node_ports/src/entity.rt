@@ -6,9 +6,10 @@ ghost use Rattle.rlc_model.specs.Rx.{rx_next};
 ghost use Rattle.rlc_model.specs.Hop.{side_fault};
 ghost use Rattle.rlc_hop.specs.Side.{IsToSend, HearsNews};
 ghost use Rattle.node_model.specs.Opening.{new_entity};
+ghost use Rattle.node_model.specs.Standing.{entity_bears};
 
 use bearer_map::Settings;
-use link_base::{Bytes, Expired, Memory, SnSize, Tag, Timer};
+use link_base::{Bytes, Expired, LocalId, Memory, SnSize, Tag, Timer};
 use rlc_am_rx::AmRx;
 use rlc_am_tx::AmTx;
 use rlc_hop::{AirFault, HopGrant, HopHeard, Pdu, hop_expire, hop_grant, hop_hear, side_fault};
@@ -73,6 +74,13 @@ impl RlcEntity {
         ensures { result ≡ self.now.epoch }
     {
         self.epoch
+    }
+
+    /// Whether an SDU that isn't confirmed bears this local identity.
+    pub(crate) fn bears(&self, id: LocalId) -> bool
+        ensures { result ≡ entity_bears id (Some self.now) }
+    {
+        self.tx.bears(id)
     }
 
     /// Why the air doesn't hand a PDU over to it.

@@ -9,6 +9,7 @@ mod opening;
 mod order;
 mod ports;
 mod side;
+mod switching;
 
 pub use discards::{route_discard, srap_discard};
 pub use ids::attached;

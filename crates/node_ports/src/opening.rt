@@ -79,8 +79,8 @@ pub(crate) fn add_uu(
     Ok(())
 }
 
-// Whether a port of a remote is open while its path is this.
-fn is_open_on(goal: Goal, port: PortName) -> bool
+/// Whether a port of a remote is open while its path is this.
+pub(crate) fn is_open_on(goal: Goal, port: PortName) -> bool
     ensures { result ≡ is_open_on goal port }
 {
     matches!(

@@ -1,5 +1,5 @@
 // The sides of ports that a node has.
-ghost use Rattle.std.specs.Prelude.{◌≡◌, ◌<◌, ◌≤◌, ◌^◌, true, false, length, Some, is_some, IsNone, IfOk, OnOk, OnErr, option_map};
+ghost use Rattle.std.specs.Prelude.{◌≡◌, ◌<◌, ◌≤◌, ◌^◌, true, false, length, map, Some, is_some, IsNone, IfOk, OnOk, OnErr, option_map};
 ghost use Rattle.std.specs.Option.{option_copied};
 ghost use Rattle.link_base.specs.declared.limits.TheConstants.{LONGEST_RLC_SDU};
 ghost use Rattle.rlc_model.specs.Sides.{Entity};
@@ -10,6 +10,8 @@ ghost use Rattle.node_model.specs.Opening.{new_remote, new_relay, new_gnb};
 ghost use Rattle.node_model.specs.Sides.{GrantsPort, ExpiresPort};
 ghost use Rattle.node_model.specs.Hearing.{hear_refusal};
 ghost use Rattle.node_model.specs.Feeding.{room_of};
+ghost use Rattle.node_model.specs.Standing.{entity_bears};
+ghost use Rattle.node_model.specs.Switching.{side_after};
 ghost use Rattle.node_ports.specs.Sides.{IsThere, IsSmall, is_sent};
 ghost use Rattle.node_ports.specs.Table.{side_in, entity_in, tx_of, rx_of};
 ghost use Rattle.node_ports.specs.Calls.{HearsPort, GivesPort};
@@ -18,8 +20,9 @@ use crate::entity::RlcEntity;
 use crate::opening::{add_direct, add_pc5, add_uu};
 use crate::order::place_of;
 use crate::side::PortSide;
-use bearer_map::{RemoteRow, Tables};
-use link_base::{Bytes, Expired, Memory, PortName, Tag, Timer};
+use crate::switching::{self, entities_after};
+use bearer_map::{RemoteRow, Settings, Tables};
+use link_base::{Bytes, Expired, Goal, LocalId, Memory, PortName, Remote, Tag, Timer};
 use node_model::{NodeHeard, PortGrant};
 use rlc_am_rx::AmRx;
 use rlc_am_tx::AmTx;
@@ -124,6 +127,16 @@ impl Ports {
         Some(self.entity(port)?.rx())
     }
 
+    /// Whether an SDU bears this local identity that the transmitter of a port has and that isn't confirmed.
+    pub fn bears(&self, port: PortName, id: LocalId) -> bool
+        ensures { result ≡ entity_bears id (entity_in self.now port) }
+    {
+        match self.entity(port) {
+            None => false,
+            Some(entity) => entity.bears(id),
+        }
+    }
+
     /// How many more SDUs the transmitter of a port takes; 0 where the port isn't open here.
     pub fn room(&self, port: PortName) -> u64
         ensures { result ≡ room_of (entity_in self.now port) }
@@ -219,6 +232,27 @@ impl Ports {
             unreachable!()
         };
         self.sides[place].give(tag, sdu)?;
+        Ok(())
+    }
+
+    /// The node applies a plan of a remote: the entities of the remote's old path are dropped, and those of its new path
+    /// have sent and heard nothing and stand in this epoch (TS 38.322 clause 5.1.2). Slots and queues of the remote are
+    /// emptied.
+    ///
+    /// An `Err` is want of memory. All is then as it was.
+    pub fn apply(
+        &mut self,
+        settings: Settings,
+        remote: Remote,
+        goal: Goal,
+        epoch: u32,
+    ) -> Result<(), Memory>
+        ensures ok { OnOk result
+            (self.new ≡ map (side_after settings remote goal epoch) self.old) }
+        ensures err { OnErr result (self.new ≡ self.old) }
+    {
+        let mut entities = entities_after(self.alloc, &self.sides, settings, remote, goal, epoch)?;
+        switching::apply(&mut self.sides, remote, &mut entities);
         Ok(())
     }
 }

@@ -4,11 +4,15 @@ ghost use Rattle.std.specs.Option.{option_copied};
 ghost use Rattle.link_base.specs.declared.limits.TheConstants.{LONGEST_RLC_SDU};
 ghost use Rattle.node_model.specs.Opening.{new_side};
 ghost use Rattle.node_model.specs.Hearing.{side_refusal, entity_fault};
+ghost use Rattle.node_model.specs.Names.{is_of};
+ghost use Rattle.node_model.specs.Switching.{is_purged};
+ghost use Rattle.node_ports.specs.Switching.{entity_after, side_with};
 
 use crate::entity::RlcEntity;
+use crate::opening::is_open_on;
 use crate::order::PortRow;
 use bearer_map::Settings;
-use link_base::{Bytes, Expired, Memory, PortName, SnSize, Tag, Timer};
+use link_base::{Bytes, Expired, Goal, Memory, PortName, Remote, SnSize, Tag, Timer};
 use node_model::{NodeHeard, Parcel, PortGrant};
 use rlc_hop::{AirFault, HopHeard, Pdu};
 use std::alloc::Global;
@@ -62,6 +66,52 @@ impl PortSide {
             slot: None,
             queue: VecDeque::new(alloc),
         })
+    }
+
+    /// The entity with which it begins where it is one of the remote's sides and is open on its new path.
+    pub(crate) fn entity_after(
+        &self,
+        alloc: Global,
+        settings: Settings,
+        remote: Remote,
+        goal: Goal,
+        epoch: u32,
+    ) -> Result<Option<RlcEntity>, Memory>
+        ensures { IfOk result
+            (λ entity. entity ≡ entity_after settings remote goal epoch self.now) }
+    {
+        if !(is_of(remote, self.name) && is_open_on(goal, self.name)) {
+            return Ok(None);
+        }
+        let entity = RlcEntity::new(alloc, settings, self.size, epoch)?;
+        Ok(Some(entity))
+    }
+
+    /// The node has applied a plan of a remote. One of the remote's own sides takes this entity, or is closed where
+    /// there is none.
+    pub(crate) fn apply(&mut self, remote: Remote, entity: &mut Option<RlcEntity>)
+        ensures { self.new ≡ side_with remote entity.old self.old }
+    {
+        if self.is_purged(remote) {
+            self.slot = None;
+        }
+        if is_of(remote, self.name) {
+            self.entity = entity.take();
+            self.queue.clear();
+        }
+    }
+
+    // Whether its slot is emptied: it is one of the remote's own sides, or the SDU in it leads to the remote.
+    fn is_purged(&self, remote: Remote) -> bool
+        ensures { result ≡ is_purged remote self.now }
+    {
+        if is_of(remote, self.name) {
+            return true;
+        }
+        match &self.slot {
+            None => false,
+            Some(parcel) => remote.0 == parcel.route.key.remote.0,
+        }
     }
 
     pub(crate) fn entity(&self) -> Option<&RlcEntity>
@@ -155,5 +205,15 @@ impl PortRow for PortSide {
 
     fn port(&self) -> PortName {
         self.name
+    }
+}
+
+// Whether a port is one of a remote's own: a direct port or a PC5 port.
+fn is_of(remote: Remote, port: PortName) -> bool
+    ensures { result ≡ is_of remote port }
+{
+    match port {
+        PortName::Direct(own, _) | PortName::Pc5(own, _) => remote.0 == own.0,
+        PortName::Uu(_) => false,
     }
 }

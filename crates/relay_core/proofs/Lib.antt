@@ -3,3 +3,9 @@ pub mod AtPlace
 mod Opened
 pub mod Heard
 pub mod Moving
+mod Walk
+mod Giving
+mod Entered
+mod Purged
+mod PurgedTwice
+mod Placed

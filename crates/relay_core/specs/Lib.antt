@@ -4,3 +4,5 @@ pub mod Opening
 pub mod Calls
 pub mod Routing
 pub mod Relay
+pub mod Switching
+pub mod Standing

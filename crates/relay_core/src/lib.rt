@@ -2,13 +2,17 @@
 //! sends them on over the next hop as they came.
 #![tactic(auto)]
 
+mod entering;
 mod hearing;
 mod opening;
 mod ports;
 mod pulling;
+mod purging;
 mod queue;
 mod relay;
 mod routing;
+mod standing;
+mod switching;
 
 pub use node_model::{NodeHeard, Parcel, PortGrant, PullReply, PushReply};
 pub use ports::{EgressPort, IngressPort};

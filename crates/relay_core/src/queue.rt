@@ -1,7 +1,10 @@
 // The queue of an egress.
 ghost use Rattle.std.specs.Prelude.{◌≡◌, ◌<◌, ◌≤◌, ◌==◌, [], ◌∷◌, ◌++◌, length, nat_le, OnOk, IfOk, IfErr, IfSome, IfNone};
+ghost use Rattle.std.specs.List.{list_any};
+ghost use Rattle.relay_core.specs.Standing.{bears};
 
-use link_base::Memory;
+use crate::standing::bears;
+use link_base::{LocalId, Memory};
 use node_model::Parcel;
 use std::alloc::Global;
 use std::collections::VecDeque;
@@ -69,6 +72,23 @@ impl ParcelQueue {
         ensures { self.new ≡ record self.old { parcels = item ∷ self.old.parcels } }
     {
         self.parcels.push_front_reserved(item);
+    }
+
+    /// Drops all SDUs, and tells how many. The room stays.
+    pub(crate) fn clear(&mut self) -> u64
+        ensures empties { self.new ≡ record self.old { parcels = [] } }
+        ensures dropped { result ≡ length self.old.parcels }
+    {
+        let waiting = self.parcels.len() as u64;
+        self.parcels.clear();
+        waiting
+    }
+
+    /// Whether an SDU that waits bears a local identity.
+    pub(crate) fn bears(&self, id: LocalId) -> bool
+        ensures { result ≡ list_any (bears id) self.now.parcels }
+    {
+        self.parcels.iter().any(|parcel| bears(parcel, id))
     }
 
     /// How many SDUs wait.

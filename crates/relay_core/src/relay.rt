@@ -202,6 +202,7 @@ impl Relay {
         ensures found { IfSome result (λ remote. IsAttached self.now.node.attached remote id.0) }
         ensures none { IfNone result
             ((remote : Remote) → IsAttached self.now.node.attached remote id.0 → ⊥) }
+        ensures each_once { AreIds self.now.node.attached }
     {
         self.ids.remote_of(id)
     }

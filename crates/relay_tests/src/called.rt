@@ -1,9 +1,9 @@
 // A relay that is called by words.
-use crate::names::{port_of, timer_of};
-use crate::premises::{can_go_on, can_open};
+use crate::names::{goal_of, port_of, timer_of};
+use crate::premises::{can_go_on, can_open, is_free_for};
 use crate::tables::tables_with;
-use crate::texts::{expired_text, grant_text, heard_text, pull_text, push_text};
-use link_base::{LocalId, PortName, Way, copy_bytes};
+use crate::texts::{expired_text, grant_text, heard_text, place_text, pull_text, push_text};
+use link_base::{LocalId, PortName, Remote, Way, copy_bytes};
 use relay_core::Relay;
 use rlc_hop::Pdu;
 use std::alloc::Global;
@@ -43,6 +43,12 @@ impl Called {
                 expired_text(self.alloc, expired)
             }
             "remote" => self.remote(name.parse()?),
+            "apply" => self.apply(rt, Remote(name.parse()?), argument),
+            "purge" => self.purge(Remote(name.parse()?)),
+            "stands" => {
+                let place = self.relay.stands(LocalId(name.parse()?));
+                place_text(self.alloc, place)
+            }
             "is_empty" => Ok(format!(in self.alloc; "{}", self.relay.is_empty())?),
             _ => panic!(rt; "no such call: {word}"),
         }
@@ -97,5 +103,21 @@ impl Called {
             Some(remote) => Ok(format!(in self.alloc; "{}", remote.0)?),
             None => Ok(String::from_str(self.alloc, "none")?),
         }
+    }
+
+    // A plan of a remote is applied: its path, and its epoch.
+    fn apply(&mut self, rt: &impl Abort, remote: Remote, argument: &str) -> Result<String, Fail> {
+        let (goal, epoch) = argument.split_once(' ').unwrap_or((argument, ""));
+        let goal = goal_of(goal)?;
+        let epoch = epoch.parse()?;
+        assert!(rt; is_free_for(&self.relay, remote, goal));
+        let dropped = self.relay.apply(remote, goal, epoch)?;
+        Ok(format!(in self.alloc; "{dropped}")?)
+    }
+
+    // A remote is purged.
+    fn purge(&mut self, remote: Remote) -> Result<String, Fail> {
+        let dropped = self.relay.purge(remote);
+        Ok(format!(in self.alloc; "{dropped}")?)
     }
 }

@@ -12,6 +12,8 @@ mod premises;
 #[cfg(test)]
 mod rows;
 #[cfg(test)]
+mod switches;
+#[cfg(test)]
 mod tables;
 #[cfg(test)]
 mod texts;

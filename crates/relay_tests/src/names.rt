@@ -1,5 +1,5 @@
 // Names of ports and timers in the tables of calls.
-use link_base::{Chan, Drb, PortName, Remote, Timer};
+use link_base::{Chan, Drb, Goal, LocalId, PortName, Remote, Timer};
 use std::alloc::Global;
 use std::process::Abort;
 use std::test::Fail;
@@ -38,5 +38,13 @@ pub(crate) fn timer_of(rt: &impl Abort, name: &str) -> Timer {
         "reasm" => Timer::Reasm,
         "prohibit" => Timer::Prohibit,
         _ => panic!(rt; "no such timer: {name}"),
+    }
+}
+
+/// The path of a name: `direct`, or the local identity of a relay path.
+pub(crate) fn goal_of(name: &str) -> Result<Goal, Fail> {
+    match name {
+        "direct" => Ok(Goal::Direct),
+        _ => Ok(Goal::Relay(LocalId(name.parse()?))),
     }
 }

@@ -1,15 +1,17 @@
 // Whether what the calls of a relay need of its tables and numbers holds.
 ghost use Rattle.std.specs.Prelude.{◌≡◌, ◌++◌, IsTrue, Some, IfOk, IfSome};
 ghost use Rattle.bearer_map.specs.Contents.{Contents};
-ghost use Rattle.bearer_map.specs.Ids.{AreIds};
+ghost use Rattle.bearer_map.specs.Ids.{AreIds, IsAttached};
+ghost use Rattle.link_base.specs.declared.names.Remote.{Remote};
 ghost use Rattle.rlc_model.specs.Sides.{Entity};
 ghost use Rattle.node_model.specs.Opening.{all_attached, attachments};
+ghost use Rattle.node_model.specs.Standing.{IsFreeFor};
 ghost use Rattle.node_model.specs.State.{entity_at};
 ghost use Rattle.node_ports.specs.Sides.{IsSmall};
 ghost use Rattle.relay_core.specs.Opening.{HasChannels, HaveChannels};
 
 use bearer_map::{Ids, MapRow, RemoteRow, Tables};
-use link_base::{Goal, Memory, PortName};
+use link_base::{Goal, LocalId, Memory, PortName, Remote};
 use relay_core::Relay;
 use std::alloc::Global;
 
@@ -27,6 +29,27 @@ pub(crate) fn can_go_on(relay: &Relay, port: PortName) -> bool
         return true;
     };
     tx.next() < MOST && rx.next() < MOST
+}
+
+/// Whether no other remote has the local identity of a remote's new path.
+pub(crate) fn is_free_for(relay: &Relay, remote: Remote, goal: Goal) -> bool
+    ensures { IsTrue result → IsFreeFor relay.now.node.attached remote goal }
+{
+    match goal {
+        Goal::Direct => true,
+        Goal::Relay(id) => is_free(relay, remote, id),
+    }
+}
+
+// Whether no other remote has a local identity.
+fn is_free(relay: &Relay, remote: Remote, id: LocalId) -> bool
+    ensures { IsTrue result → (other : Remote) → IsAttached relay.now.node.attached other id.0
+        → other ≡ remote }
+{
+    match relay.remote_of(id) {
+        None => true,
+        Some(other) => other.0 == remote.0,
+    }
 }
 
 /// Whether a relay can be opened with these tables.

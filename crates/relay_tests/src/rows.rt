@@ -6,7 +6,12 @@ use std::test::Fail;
 
 /// Does the calls of a table on a relay at which nothing has happened, whose queues hold so many SDUs: each row is a call
 /// and, behind a bar, what it answers.
-fn expect_rows(rt: &impl Abort, alloc: Global, queue: u32, rows: &str) -> Result<(), Fail> {
+pub(crate) fn expect_rows(
+    rt: &impl Abort,
+    alloc: Global,
+    queue: u32,
+    rows: &str,
+) -> Result<(), Fail> {
     let mut relay = Called::new(rt, alloc, queue)?;
     for row in rows.split('\n') {
         let Some((call, want)) = row.split_once('|') else {

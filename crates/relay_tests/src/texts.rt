@@ -1,6 +1,6 @@
 // What the calls of a relay answer, in words.
 use crate::names::port_text;
-use link_base::{Discard, Expired};
+use link_base::{Discard, Expired, Place};
 use relay_core::{NodeHeard, PortGrant, PullReply, PushReply};
 use rlc_hop::{AirFault, HopGrant, HopHeard};
 use rlc_model::{Heard, StatusHeard};
@@ -108,6 +108,24 @@ pub(crate) fn expired_text(alloc: Global, expired: Option<Expired>) -> Result<St
         Some(Expired::Stopped) => String::from_str(alloc, "stopped"),
         Some(Expired::Done) => String::from_str(alloc, "done"),
         Some(Expired::Marked(number)) => format!(in alloc; "marked {number}"),
+    };
+    Ok(text?)
+}
+
+/// Where an SDU stands.
+pub(crate) fn place_text(alloc: Global, place: Option<Place>) -> Result<String, Fail> {
+    let text = match place {
+        None => String::from_str(alloc, "nowhere"),
+        Some(Place::Slot(port)) => {
+            let port = port_text(alloc, port)?;
+            format!(in alloc; "slot {port}")
+        }
+        Some(Place::Queue(port)) => {
+            let port = port_text(alloc, port)?;
+            format!(in alloc; "queue {port}")
+        }
+        Some(Place::Uu(chan)) => format!(in alloc; "uu {}", chan.0),
+        Some(_) => String::from_str(alloc, "no place of the relay"),
     };
     Ok(text?)
 }
